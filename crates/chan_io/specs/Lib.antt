@@ -1,0 +1,4 @@
+pub mod Faults
+pub mod Sides
+pub mod Sinks
+pub mod Sources
