@@ -1,0 +1,6 @@
+pub mod Decoding
+pub mod Fields
+pub mod Layout
+pub mod Names
+pub mod Refusals
+pub use Rattle.sha2.specs.Sha256
