@@ -1,0 +1,6 @@
+pub mod AckLemmas
+pub mod ChannelClosedLemmas
+pub mod MemberLemmas
+pub mod ReadingLemmas
+pub mod SizeLemmas
+pub mod WrittenLemmas

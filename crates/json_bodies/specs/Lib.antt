@@ -1,0 +1,5 @@
+pub mod Ack
+pub mod ChannelClosed
+pub mod Member
+pub mod Reading
+pub mod Size
