@@ -1,0 +1,96 @@
+//! The receive window: stream messages come in any order and leave by number, each once.
+
+ghost use Rattle.std.specs.Prelude.{◌≡◌, ◌↔◌, ◌+◌, ◌-◌, ◌^◌, ◌<◌, ◌≤◌, ◌∷◌, IfOk, IsTrue, length};
+ghost use Rattle.receive_window.specs.Window.{empty_window, is_taken, Releases, IfReleased, IfRefused};
+
+use crate::release::release;
+use crate::take::Take;
+use agent_message::{Item, Items};
+use chan_io::NoMemory;
+use std::alloc::Global;
+use std::collections::BTreeMap;
+use std::marker::Model;
+
+/// The stream messages that came, by number.
+#[derive(Drop)]
+pub struct Window {
+    alloc: Global,
+    window: u64,
+    expected: u64,
+    early: BTreeMap<u64, Item>,
+}
+
+impl Model for Window {
+    ghost use Rattle.receive_window.specs.Window.{WindowState};
+    ghost use Rattle.receive_window.specs.Inside.{IsSound};
+
+    ghost Value = { WindowState };
+
+    ghost view = { λ w. record {
+      window = w.window;
+      expected = w.expected;
+      early = w.early.entries;
+    } };
+
+    ghost invariant = { λ w. IsSound w.window w.expected w.early };
+}
+
+impl Window {
+    /// A window of 1 to 10,000 messages.
+    pub fn new(alloc: Global, window: u64) -> Result<Window, NoMemory>
+        requires low { 1 ≤ window }
+        requires high { window ≤ 10000 }
+        ensures { IfOk result (λ taken. taken ≡ empty_window window) }
+    {
+        Ok(Window {
+            alloc,
+            window,
+            expected: 0,
+            early: BTreeMap::new(alloc),
+        })
+    }
+
+    /// Takes a stream message, where it is new and inside the window.
+    pub fn take(&mut self, seq: u64, item: Item) -> Take
+        requires { seq < 2 ^ 63 }
+        ensures late { (result ≡ Take.Late) ↔ IsTrue (is_taken self.old seq) }
+        ensures beyond { (result ≡ Take.Beyond) ↔ (self.old.expected + self.old.window ≤ seq) }
+        ensures released { IfReleased result (λ items.
+            Releases self.old ((seq, item) ∷ self.old.early) items self.new) }
+        ensures refused { IfRefused result item self.old self.new }
+    {
+        if seq < self.expected || self.early.contains_key(&seq) {
+            return Take::Late;
+        }
+        if seq >= self.expected + self.window {
+            return Take::Beyond;
+        }
+        if seq > self.expected {
+            match self.early.insert(seq, item) {
+                Ok(_) => return Take::Released(Items::none(self.alloc)),
+                Err(failed) => return Take::NoMemory(failed.value.1),
+            }
+        }
+        let Ok(mut items) = Vec::with_capacity(self.alloc, self.early.len() + 1) else {
+            return Take::NoMemory(item);
+        };
+        items.push_reserved(item);
+        self.expected = release(&mut self.early, seq + 1, &mut items);
+        Take::Released(Items::new(items))
+    }
+
+    /// The least number that was not taken.
+    pub fn expected(&self) -> u64
+        ensures { result ≡ self.now.expected }
+    {
+        self.expected
+    }
+
+    /// How many items wait for an earlier one: fewer than the window has.
+    pub fn held(&self) -> u64
+        ensures count { result ≡ length self.now.early }
+        ensures few { result ≤ self.now.window - 1 }
+    {
+        self.early.len() as u64
+    }
+}

@@ -1,0 +1,4 @@
+pub mod Inside
+pub mod Queue
+pub mod RoundTrips
+pub mod Slot
