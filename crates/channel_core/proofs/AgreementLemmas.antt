@@ -1,0 +1,338 @@
+-- What a sender and a receiver agree on in each legal and honest world.
+use Rattle.std.proofs.Common.{◌≡◌, ℕ, ◌+◌, ◌<◌, ◌≤◌, zero, suc, true, not, ◌||◌, Option, Some, None, List, [], ◌∷◌, ◌++◌, ◌⊎◌, inl, inr, ⊎_elim, refl, sym, ap, subst, ◌∙◌, arith, eqb, length, ltb, map, slice_get}
+use Rattle.std.specs.List.{All, cons_option, list_any}
+use Rattle.std.specs.Option.{IfSome}
+use Rattle.std.proofs.lemmas.Bool.{cond_both}
+use Rattle.std.proofs.lemmas.List.{append-nil}
+use Rattle.std.proofs.lemmas.List.Elements.{All-append, All-cons, All-contains, All-drop, All-head, All-nil, All-push, All-weaker}
+use Rattle.std.proofs.lemmas.Option.{slice_get-map}
+use Rattle.chan_io.specs.declared.side.Side.{Side}
+use Rattle.chan_io.specs.Sides.{other}
+use Rattle.agent_message.specs.declared.item.Item.{Item}
+use Rattle.channel_core.specs.declared.call.EndAnswer.{EndAnswer}
+use Rattle.channel_core.specs.declared.call.EndCall.{EndCall}
+use Rattle.channel_core.specs.declared.pulling.Outgoing.{Outgoing}
+use Rattle.channel_core.specs.Call.{Entry}
+use Rattle.channel_core.specs.History.{Message, acked_numbers, emissions, item_taken, lowest_unacked, message_emitted, message_put, number_acked, owed_acks, owed_after, owed_with, put_items, put_messages, taken_items}
+use Rattle.channel_core.specs.Legal.{IsAnswered}
+use Rattle.channel_core.specs.Numbers.{has_number, numbers_of}
+use Rattle.channel_core.specs.World.{Event, IsHonest, IsLegalWorld, WasEmitted, history_of}
+use Rattle.channel_core.proofs.HistoryLemmas.{acked_numbers-push, by_pushes, emissions-push, owed_acks-push, put_items-push, taken_items-push}
+use Rattle.channel_core.proofs.ItemLemmas.{numbers_of-append}
+use Rattle.channel_core.proofs.LegalLemmas.{by_cases}
+use Rattle.channel_core.proofs.NumberLemmas.{has_number-last, has_number-more, has_number-pushed, least_absent-grows}
+use Rattle.channel_core.proofs.SoundLemmas.{IsSound, sound}
+use Rattle.channel_core.proofs.WorldLemmas.{IsHonest-pushed, IsLegalWorld-pushed, cases_side, history_of-away, history_of-here, history_of-there, other-other}
+
+-- a stream message has the item that was put in with its number, which is below this bound
+abbrev pub IsSentFrom : List Item → ℕ → Outgoing → Type 0
+IsSentFrom items bound (Outgoing.Stream m) =
+    (slice_get items m.seq ≡ Some m.item) × (m.seq < bound)
+IsSentFrom items bound (Outgoing.Ack n id date) = Unit {0}
+
+-- an acknowledgement has a number that was taken
+abbrev pub IsAckOf : List ℕ → Outgoing → Type 0
+IsAckOf taken (Outgoing.Stream m) = Unit {0}
+IsAckOf taken (Outgoing.Ack n id date) = has_number taken n ≡ true
+
+-- a numbered item is the one that was put in with this number
+abbrev pub IsPutAs : List Item → ℕ × Item → Type 0
+IsPutAs items p = slice_get items p.0 ≡ Some p.1
+
+-- a number that is owed was taken
+abbrev pub IsTaken : List ℕ → ℕ × List ℕ → Type 0
+IsTaken taken p = has_number taken p.0 ≡ true
+
+-- the histories s of a sender and r of its receiver
+pub record Agree (w : ℕ) (s r : List Entry) : Type 0 where
+  pub sent : All (IsSentFrom (put_items s) (lowest_unacked s + w)) (emissions s)
+  pub taken : All (IsPutAs (put_items s)) (taken_items r)
+  pub owed : All (IsTaken (numbers_of (taken_items r))) (owed_acks w r)
+  pub acks : All (IsAckOf (numbers_of (taken_items r))) (emissions r)
+  pub acked : (n : ℕ)
+      → has_number (acked_numbers s) n ≡ true
+      → has_number (numbers_of (taken_items r)) n ≡ true
+
+-- what holds of a value that is there holds of all in the list of it
+All-option : {X : Type 0} (P : X → Type 0) (o : Option X) → IfSome o P → All P (cons_option o [])
+All-option P None holds = All-nil P
+All-option P (Some x) holds = All-cons P x [] holds (All-nil P)
+
+-- an element stays at its place where more come
+slice_get-more : {X : Type 0} (xs ys : List X) (n : ℕ) (x : X)
+    → slice_get xs n ≡ Some x
+    → slice_get (xs ++ ys) n ≡ Some x
+slice_get-more [] ys n x is = cc
+slice_get-more (y ∷ xs) ys zero x is = is
+slice_get-more (y ∷ xs) ys (suc n) x is = slice_get-more xs ys n x is
+
+-- an emission has its item, within the window
+emission_sent : (w : ℕ) (s : List Entry) (call : EndCall) (answer : EndAnswer)
+    → length (put_messages s) ≤ lowest_unacked s + w
+    → IsAnswered w s call answer
+    → IfSome (message_emitted answer) (IsSentFrom (put_items s) (lowest_unacked s + w))
+emission_sent w s call answer room answered =
+    by_cases w s
+    (λ call answer. IfSome (message_emitted answer) (IsSentFrom (put_items s) (lowest_unacked s + w)))
+    (record {
+      quiet = λ call answer quiet. rw quiet.emitted tt;
+      seq = λ item id now apart. tt;
+      late = λ now n id item there. tt;
+      released = λ now n id item absent near. tt;
+      acked = λ now n out before. tt;
+      emit_ack = λ now p owed is. tt;
+      emit_stream = λ now n m below eligible is.
+          (slice_get-map (λ (x : Message). x.item) (put_messages s) n ∙ rw is refl, omega arith);
+    }) call answer answered
+
+-- a number that is acknowledged was taken at the other end
+acked_taken : (w : ℕ) (s : List Entry) (call : EndCall) (answer : EndAnswer)
+    (sent : List Outgoing) (taken : List ℕ)
+    → All (IsAckOf taken) sent
+    → WasEmitted sent call
+    → IsAnswered w s call answer
+    → IfSome (number_acked answer) (λ n. has_number taken n ≡ true)
+acked_taken w s call answer sent taken acks emitted answered =
+    by_cases w s
+    (λ call answer. WasEmitted sent call → IfSome (number_acked answer) (λ n. has_number taken n ≡ true))
+    (record {
+      quiet = λ call answer quiet emitted. rw quiet.acked tt;
+      seq = λ item id now apart emitted. tt;
+      late = λ now n id item there emitted. tt;
+      released = λ now n id item absent near emitted. tt;
+      acked = λ now n out before emitted.
+          All-contains (IsAckOf taken) sent (Outgoing.Ack n emitted.0 emitted.1) acks emitted.2;
+      emit_ack = λ now p owed is emitted. tt;
+      emit_stream = λ now n m below eligible is emitted. tt;
+    }) call answer answered emitted
+
+-- what was sent is so where more was put in and the bound rose
+sent_more : (items more : List Item) (bound higher : ℕ) (out : Outgoing)
+    → bound ≤ higher
+    → IsSentFrom items bound out
+    → IsSentFrom (items ++ more) higher out
+sent_more items more bound higher (Outgoing.Stream m) grows is =
+    (slice_get-more items more m.seq m.item is.0, omega (arith, is.1))
+sent_more items more bound higher (Outgoing.Ack n id date) grows is = tt
+
+-- one entry more of the sender
+sender_after : (w : ℕ) (s r : List Entry) (e : Entry)
+    → Agree w s r
+    → IsSound w s
+    → IsAnswered w s e.call e.answer
+    → WasEmitted (emissions r) e.call
+    → Agree w (s ++ e ∷ []) r
+sender_after w s r e agree sound answered emitted =
+    let more = map (λ m. m.item) (cons_option (message_put e.answer e.call) []) in
+    let bound = lowest_unacked s + w in
+    let higher = lowest_unacked (s ++ e ∷ []) + w in
+    let Old : Outgoing → Type 0 = IsSentFrom (put_items s) bound in
+    let grows : lowest_unacked s ≤ lowest_unacked (s ++ e ∷ [])
+    = rw acked_numbers-push
+    (least_absent-grows (acked_numbers s) (cons_option (number_acked e.answer) [])) in
+    let puts = put_items-push s e in
+    let new = emission_sent w s e.call e.answer sound.room answered in
+    record {
+      sent = rw (emissions-push, puts)
+          (All-weaker Old (IsSentFrom (put_items s ++ more) higher)
+          (λ out is. sent_more (put_items s) more bound higher out (omega arith) is)
+          (emissions s ++ cons_option (message_emitted e.answer) [])
+          (All-append Old (emissions s) (cons_option (message_emitted e.answer) [])
+          agree.sent (All-option Old (message_emitted e.answer) new)));
+      taken = rw puts
+          (All-weaker (IsPutAs (put_items s)) (IsPutAs (put_items s ++ more))
+          (λ p is. slice_get-more (put_items s) more p.0 p.1 is) (taken_items r) agree.taken);
+      owed = agree.owed;
+      acks = agree.acks;
+      acked = λ n there. acked n
+          (has_number-pushed (acked_numbers s) (number_acked e.answer) n
+          (ap (λ (l : List ℕ). has_number l n) (sym (acked_numbers-push s e)) ∙ there));
+    }
+  where
+    taken : List ℕ
+    taken = numbers_of (taken_items r)
+
+    acked : (n : ℕ)
+        → (has_number (acked_numbers s) n ≡ true) ⊎ (number_acked e.answer ≡ Some n)
+        → has_number taken n ≡ true
+    acked n (inl before) = agree.acked n before
+    acked n (inr now) =
+        let is = acked_taken w s e.call e.answer (emissions r) taken agree.acks emitted answered in
+        subst (λ (o : Option ℕ). IfSome o (λ k. has_number taken k ≡ true)) now is
+
+-- what is taken is the item that was put in
+taken_put : (w : ℕ) (r : List Entry) (call : EndCall) (answer : EndAnswer)
+    (sent : List Outgoing) (items : List Item) (bound : ℕ)
+    → All (IsSentFrom items bound) sent
+    → WasEmitted sent call
+    → IsAnswered w r call answer
+    → IfSome (item_taken answer call) (IsPutAs items)
+taken_put w r call answer sent items bound all emitted answered =
+    by_cases w r
+    (λ call answer. WasEmitted sent call → IfSome (item_taken answer call) (IsPutAs items))
+    (record {
+      quiet = λ call answer quiet emitted. rw quiet.taken tt;
+      seq = λ item id now apart emitted. tt;
+      late = λ now n id item there emitted. tt;
+      released = λ now n id item absent near emitted.
+          let out = Outgoing.Stream (record { seq = n; id = id; date = emitted.0; item = item }) in
+          (All-contains (IsSentFrom items bound) sent out all emitted.1).0;
+      acked = λ now n out before emitted. tt;
+      emit_ack = λ now p owed is emitted. tt;
+      emit_stream = λ now n m below eligible is emitted. tt;
+    }) call answer answered emitted
+
+-- a number that was taken may be owed
+owed_with-taken : (w : ℕ) (taken : List ℕ) (owed : List (ℕ × List ℕ)) (n : ℕ) (id : List ℕ)
+    → has_number taken n ≡ true
+    → All (IsTaken taken) owed
+    → All (IsTaken taken) (owed_with w owed n id)
+owed_with-taken w taken owed n id there all =
+    let full = list_any (λ (p : ℕ × List ℕ). eqb n p.0) owed || not (ltb (length owed) w) in
+    cond_both full owed (owed ++ (n, id) ∷ []) (All (IsTaken taken))
+    (λ _. all)
+    (λ _. All-push (IsTaken taken) owed (n, id) all there)
+
+-- what is owed was taken
+abbrev OwedTaken : ℕ → List Entry → EndCall → EndAnswer → Type 0
+OwedTaken w r call answer =
+    All
+    (IsTaken (numbers_of (taken_items r ++ cons_option (item_taken answer call) [])))
+    (owed_after w (owed_acks w r) answer call)
+
+owed_taken : (w : ℕ) (r : List Entry) (call : EndCall) (answer : EndAnswer)
+    → All (IsTaken (numbers_of (taken_items r))) (owed_acks w r)
+    → IsAnswered w r call answer
+    → OwedTaken w r call answer
+owed_taken w r call answer all answered =
+    let taken = numbers_of (taken_items r) in
+    let owed = owed_acks w r in
+    let same : All (IsTaken (numbers_of (taken_items r ++ []))) owed = rw append-nil all in
+    by_cases w r (OwedTaken w r)
+    (record {
+      quiet = λ call answer quiet. rw (quiet.taken, quiet.owed) same;
+      seq = λ item id now apart. same;
+      late = λ now n id item there. rw append-nil (owed_with-taken w taken owed n id there all);
+      released = λ now n id item absent near. rw numbers_of-append
+          (owed_with-taken w (taken ++ n ∷ []) owed n id (has_number-last taken n)
+          (All-weaker (IsTaken taken) (IsTaken (taken ++ n ∷ []))
+          (λ p there. has_number-more taken (n ∷ []) p.0 there) owed all));
+      acked = λ now n out before. same;
+      emit_ack = λ now p rest is. rw append-nil (All-drop (IsTaken taken) 1 owed all);
+      emit_stream = λ now n m below eligible is. same;
+    }) call answer answered
+
+-- what is acknowledged was taken
+ack_taken : (w : ℕ) (r : List Entry) (call : EndCall) (answer : EndAnswer)
+    → All (IsTaken (numbers_of (taken_items r))) (owed_acks w r)
+    → IsAnswered w r call answer
+    → IfSome (message_emitted answer) (IsAckOf (numbers_of (taken_items r)))
+ack_taken w r call answer all answered =
+    let taken = numbers_of (taken_items r) in
+    by_cases w r (λ call answer. IfSome (message_emitted answer) (IsAckOf taken))
+    (record {
+      quiet = λ call answer quiet. rw quiet.emitted tt;
+      seq = λ item id now apart. tt;
+      late = λ now n id item there. tt;
+      released = λ now n id item absent near. tt;
+      acked = λ now n out before. tt;
+      emit_ack = λ now p rest is. All-head (IsTaken taken) p rest (subst (All (IsTaken taken)) is all);
+      emit_stream = λ now n m below eligible is. tt;
+    }) call answer answered
+
+-- an acknowledgement is of a number that was taken, also where more are
+ack_more : (taken more : List ℕ) (out : Outgoing) → IsAckOf taken out → IsAckOf (taken ++ more) out
+ack_more taken more (Outgoing.Stream m) is = tt
+ack_more taken more (Outgoing.Ack n id date) is = has_number-more taken more n is
+
+-- one entry more of the receiver
+receiver_after : (w : ℕ) (s r : List Entry) (e : Entry)
+    → Agree w s r
+    → IsAnswered w r e.call e.answer
+    → WasEmitted (emissions s) e.call
+    → Agree w s (r ++ e ∷ [])
+receiver_after w s r e agree answered emitted =
+    let new : List (ℕ × Item) = cons_option (item_taken e.answer e.call) [] in
+    let taken = numbers_of (taken_items r) in
+    let Put : ℕ × Item → Type 0 = IsPutAs (put_items s) in
+    let numbers : numbers_of (taken_items (r ++ e ∷ [])) ≡ taken ++ numbers_of new
+    = ap numbers_of (taken_items-push r e) ∙ numbers_of-append (taken_items r) new in
+    let bound = lowest_unacked s + w in
+    let put = taken_put w r e.call e.answer (emissions s) (put_items s) bound
+    agree.sent emitted answered in
+    let ack = ack_taken w r e.call e.answer agree.owed answered in
+    record {
+      sent = agree.sent;
+      taken = rw taken_items-push
+          (All-append Put (taken_items r) new agree.taken
+          (All-option Put (item_taken e.answer e.call) put));
+      owed = rw (taken_items-push r e, owed_acks-push w r e)
+          (owed_taken w r e.call e.answer agree.owed answered);
+      acks = rw (emissions-push, numbers)
+          (All-weaker (IsAckOf taken) (IsAckOf (taken ++ numbers_of new))
+          (ack_more taken (numbers_of new))
+          (emissions r ++ cons_option (message_emitted e.answer) [])
+          (All-append (IsAckOf taken) (emissions r) (cons_option (message_emitted e.answer) [])
+          agree.acks (All-option (IsAckOf taken) (message_emitted e.answer) ack)));
+      acked = λ n there. rw numbers (has_number-more taken (numbers_of new) n (agree.acked n there));
+    }
+
+-- the two ends of each world, either way
+abbrev pub BothAgree : ℕ → List Event → Type 0
+BothAgree w world = (side : Side) → Agree w (history_of side world) (history_of (other side) world)
+
+agree_nil : (w : ℕ) → BothAgree w []
+unfolding history_of acked_numbers emissions owed_acks taken_items
+agree_nil w side =
+    record {
+      sent = All-nil _;
+      taken = All-nil _;
+      owed = All-nil _;
+      acks = All-nil _;
+      acked = λ n there. cc;
+    }
+
+agree_after : (w : ℕ) (world : List Event) (x : Event)
+    → BothAgree w world
+    → IsLegalWorld w (world ++ x ∷ [])
+    → IsHonest (world ++ x ∷ [])
+    → BothAgree w (world ++ x ∷ [])
+agree_after w world x before legal honest side =
+    let legal_parts = IsLegalWorld-pushed w world x legal in
+    let honest_parts = IsHonest-pushed world x honest in
+    let s = history_of side world in
+    let r = history_of (other side) world in
+    ⊎_elim
+    (λ (here : x.side ≡ side).
+    let answered : IsAnswered w s x.entry.call x.entry.answer
+    = subst (λ z. IsAnswered w (history_of z world) x.entry.call x.entry.answer) here legal_parts.1 in
+    let emitted : WasEmitted (emissions r) x.entry.call
+    = subst (λ z. WasEmitted (emissions (history_of (other z) world)) x.entry.call) here honest_parts.1 in
+    rw
+    (history_of-here side world x here, history_of-away side world x here)
+    (sender_after w s r x.entry (before side) (sound w s (legal_parts.0 side)) answered emitted))
+    (λ (there : x.side ≡ other side).
+    let answered : IsAnswered w r x.entry.call x.entry.answer
+    = subst (λ z. IsAnswered w (history_of z world) x.entry.call x.entry.answer) there legal_parts.1 in
+    let emitted : WasEmitted (emissions s) x.entry.call
+    = subst
+    (λ z. WasEmitted (emissions (history_of z world)) x.entry.call)
+    (ap other there ∙ other-other side) honest_parts.1 in
+    rw
+    (history_of-here (other side) world x there, history_of-there side world x there)
+    (receiver_after w s r x.entry (before side) answered emitted))
+    (cases_side side x.side)
+
+-- the ends of a legal and honest world agree
+pub agree : (w : ℕ) (world : List Event)
+    → IsLegalWorld w world
+    → IsHonest world
+    → BothAgree w world
+agree w world =
+    by_pushes
+    (λ world. IsLegalWorld w world → IsHonest world → BothAgree w world)
+    (λ legal honest. agree_nil w)
+    (λ world x before legal honest.
+    let front = before (IsLegalWorld-pushed w world x legal).0 (IsHonest-pushed world x honest).0 in
+    agree_after w world x front legal honest)
+    world

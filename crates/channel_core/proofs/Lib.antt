@@ -1,0 +1,27 @@
+pub mod AckLemmas
+pub mod AgreementLemmas
+pub mod ArrivalLemmas
+pub mod CountLemmas
+pub mod DeliveryLemmas
+mod Examples
+pub mod ExchangeLemmas
+pub mod HearingLemmas
+pub mod HistoryLemmas
+pub mod ItemLemmas
+pub mod LegalLemmas
+pub mod NumberLemmas
+pub mod PassLemmas
+pub mod PendingLemmas
+pub mod PossibleLemmas
+pub mod PullLemmas
+pub mod PutLemmas
+pub mod ReleaseLemmas
+pub mod SearchLemmas
+pub mod SendingLemmas
+pub mod ShortLemmas
+pub mod SoundLemmas
+pub mod StandingLemmas
+pub mod StillLemmas
+pub mod TickLemmas
+pub mod WireLemmas
+pub mod WorldLemmas

@@ -1,0 +1,202 @@
+-- A stream message that is taken: from what an end keeps to the entry that follows.
+use Rattle.std.proofs.Common.{◌≡◌, ◌≢◌, ℕ, ◌+◌, ◌-◌, ◌^◌, ◌<◌, ◌≤◌, max, Bool, true, false, not, cond, ◌||◌, ◌&&◌, Option, Some, None, List, [], ◌∷◌, ◌++◌, ◌⊎◌, inl, inr, ⊎_elim, refl, sym, ap, subst, ◌∙◌, arith, length, map, filter, find, drop, eqb, leb, ltb, slice_get}
+use Rattle.std.specs.List.{cons_option, filter_map}
+use Rattle.std.specs.Option.{option_and_then, option_map}
+use Rattle.std.proofs.lemmas.Bool.{and_left, and_parts, and_right, both_ways, cases_Bool, cases_eq, cases_lt, cond_both, eq-eqb, eqb-true, false_from_ne_true, le-ltb, lt-ltb, ltb-true, ne_eqb, not-false, not-true, not_from_false, not_from_true, or_left, or_right, or_from}
+use Rattle.std.proofs.lemmas.List.{append-nil, length_push}
+use Rattle.std.proofs.lemmas.Option.{slice_get_within}
+use Rattle.agent_message.specs.declared.item.Item.{Item}
+use Rattle.resend_queue.specs.declared.kept.Kept.{Kept}
+use Rattle.resend_queue.specs.declared.kept.Kept.TheVariants as Kept
+use Rattle.resend_queue.specs.declared.mark.Mark.{Mark}
+use Rattle.resend_queue.specs.declared.mark.Mark.TheVariants as Mark
+use Rattle.resend_queue.specs.declared.out.Out.{Out}
+use Rattle.resend_queue.specs.declared.out.Out.TheVariants as Out
+use Rattle.resend_queue.specs.declared.sent.Sent.{Sent}
+use Rattle.resend_queue.specs.Queue.{Pending, QueueState, after_ack, after_mark, after_out, after_put, changed_at, first_eligible, first_number, is_eligible as may_go, is_overdue, is_past, lowest, mark_answer, mark_answer_of, marked, moment_of, new_message, out_of, put_answer, reopened, transmitted, unsent, without_number}
+use Rattle.resend_queue.specs.RoundTrips.{RoundTrip, after_sample, after_samples}
+use Rattle.channel_core.specs.declared.call.EndAnswer.{EndAnswer}
+use Rattle.channel_core.specs.declared.call.EndAnswer.TheVariants as EndAnswer
+use Rattle.channel_core.specs.declared.call.EndCall.{EndCall}
+use Rattle.channel_core.specs.declared.call.EndCall.TheVariants as EndCall
+use Rattle.channel_core.specs.declared.hearing.Heard.{Heard}
+use Rattle.channel_core.specs.declared.hearing.Heard.TheVariants as Heard
+use Rattle.channel_core.specs.declared.hearing.Incoming.{Incoming}
+use Rattle.channel_core.specs.declared.hearing.Incoming.TheVariants as Incoming
+use Rattle.channel_core.specs.declared.look.Look.{Look}
+use Rattle.channel_core.specs.declared.pulling.Outgoing.{Outgoing}
+use Rattle.channel_core.specs.declared.pulling.Outgoing.TheVariants as Outgoing
+use Rattle.channel_core.specs.declared.pulling.Pull.{Pull}
+use Rattle.channel_core.specs.declared.pulling.Pull.TheVariants as Pull
+use Rattle.channel_core.specs.declared.put.Put.{Put}
+use Rattle.channel_core.specs.declared.put.Put.TheVariants as Put
+use Rattle.channel_core.specs.declared.tick.Tick.{Tick}
+use Rattle.channel_core.specs.declared.tick.Tick.TheVariants as Tick
+use Rattle.channel_core.specs.Call.{Entry}
+use Rattle.channel_core.specs.History.{Message, acked_numbers, closes, emitted_numbers, is_closed, is_paused, is_up, item_taken, lowest_unacked, next_in_order, number_acked, owed_acks, owed_after, owed_with, paused_after, put_messages, taken_items, up_after}
+use Rattle.channel_core.specs.Legal.{IsAnswered, IsLegal, answer_to_ack, answer_to_heard, answer_to_incoming, answer_to_pull, answer_to_put, answer_to_tick, emit_message, emit_next, emit_number, is_expired, look_at}
+use Rattle.channel_core.specs.Numbers.{has_number, item_at, least_absent, least_below, numbers_of}
+use Rattle.channel_core.specs.Resending.{due_count, is_due, is_eligible, last_moment, marked_due, round_trip, round_trip_samples, sample_of, sent_since_opened, transmissions}
+use Rattle.channel_core.specs.Stands.{EndState, Stands, queue_after}
+use Rattle.channel_core.proofs.HistoryLemmas.{acked_numbers-push}
+use Rattle.channel_core.proofs.NumberLemmas.{least_absent-grows, least_absent-is, least_absent-unique, least_below-some, has_number-last, has_number-more, has_number-other}
+use Rattle.channel_core.proofs.PendingLemmas.{Sending, kept_all, kept_all-acked, kept_all-emitted, kept_all-marked, kept_all-put, kept_all-unsent, kept_at, message_of, slice_get-past}
+use Rattle.channel_core.proofs.SearchLemmas.{find-least, find_number, first_number-kept, kept_all-first, kept_all-none, least_below-agree, message_there, passes_at}
+use Rattle.channel_core.proofs.SendingLemmas.{IsOrderly, due_count-above, low-le, orderly, sending, sending_after}
+use Rattle.channel_core.proofs.StandingLemmas.{Goes, IsStill, Keeps, dues-same, goes, nothing_goes, or-false, queue_after-is, queue_of, sending-acked, sending-emitted, sending-put, sending-still, step_goes, still_goes}
+use Rattle.std.specs.List.{range_with_len}
+use Rattle.std.specs.Bool.{IsTrue}
+use Rattle.std.specs.Option.{IsSome, is_some}
+use Rattle.std.proofs.lemmas.Bool.{le-leb, lt-leb, or_parts}
+use Rattle.receive_window.specs.declared.take.Take.{Take}
+use Rattle.receive_window.specs.declared.take.Take.TheVariants as Take
+use Rattle.receive_window.specs.Window.{Releases, WindowState, is_taken, item_with, items_in_order}
+use Rattle.channel_core.specs.Legal.{answer_to_stream, items_released_by}
+use Rattle.channel_core.specs.Numbers.{items_between, or_else}
+use Rattle.channel_core.specs.Stands.{early_item}
+use Rattle.channel_core.proofs.ItemLemmas.{filter_map-agree, item_at-append, numbers_of-append}
+use Rattle.channel_core.proofs.NumberLemmas.{has_number-append, least_absent-grows}
+use Rattle.channel_core.proofs.StillLemmas.{after_close_still, beyond_still, emit_ack_still, ended_still, gave_up_still, heard_nomemory_still, idle_still, late_still, look_still, nothing_still, or-true, paused_still, pull_nomemory_still, put_closed_still, put_full_still, put_nomemory_still, put_spent_still, started_still, unknown_still}
+use Rattle.channel_core.proofs.HearingLemmas.{is_some-item_at, is_taken-is, open_heard, released_is, stream_call}
+
+-- what is there of the first value, or else of none
+or_else-none : (o : Option Item) → or_else o None ≡ o
+or_else-none None = refl
+or_else-none (Some item) = refl
+
+no_item : (o : Option Item) → is_some o ≡ false → o ≡ None
+no_item None none = refl
+no_item (Some item) none = cc
+
+-- the items from the next number on, with the new one, are those that the history tells
+arrived-is : (w : ℕ) (h : List Entry) (n : ℕ) (item : Item) (old : EndState)
+    → Stands w old h
+    → has_number (numbers_of (taken_items h)) n ≡ false
+    → (k : ℕ)
+    → next_in_order h ≤ k
+    → item_with ((n, item) ∷ old.received.early) k ≡ item_at (taken_items h ++ (n, item) ∷ []) k
+arrived-is w h n item old s new k above =
+    ⊎_elim
+    (λ (here : k ≡ n).
+    let absent : item_at (taken_items h) k ≡ None
+    = no_item (item_at (taken_items h) k) (is_some-item_at (taken_items h) k ∙ rw here new) in
+    let yes : eqb k n ≡ true = eq-eqb k n here in
+    rw yes (sym (item_at-append (taken_items h) ((n, item) ∷ []) k ∙ rw (absent, yes) refl)))
+    (λ (other : k ≡ n → ⊥).
+    let no : eqb k n ≡ false = ne_eqb k n other in
+    let early : early_item h k ≡ item_at (taken_items h) k
+    = rw (le-ltb k (next_in_order h) above) refl in
+    let alone : or_else (item_at (taken_items h) k) (item_at ((n, item) ∷ []) k) ≡ item_at
+    (taken_items h) k = rw no (or_else-none (item_at (taken_items h) k)) in
+    rw no (s.early k ∙ early ∙ sym (item_at-append (taken_items h) ((n, item) ∷ []) k ∙ alone)))
+    (cases_eq k n)
+
+pub released_goes : (w : ℕ) (h : List Entry) (now n : ℕ) (id : List ℕ) (item : Item)
+    (items : List Item) (received : WindowState) (old new : EndState)
+    → IsLegal w h
+    → Stands w old h
+    → old.closed ≡ false
+    → is_taken old.received n ≡ false → n < old.received.expected + old.received.window
+    → Releases old.received ((n, item) ∷ old.received.early) items received
+    → new ≡ record old { received = received; owed = owed_with old.received.window old.owed n id }
+    → Goes w h new (stream_call now n id item) (EndAnswer.Heard (Heard.Released items))
+released_goes w h now n id item items received old new legal s unclosed untaken near r is =
+    let e : Entry
+    = record {
+      call = stream_call now n id item;
+      answer = EndAnswer.Heard (Heard.Released items);
+    } in
+    let reach = next_in_order h in
+    let taken = taken_items h in
+    let more : List (ℕ × Item) = taken ++ (n, item) ∷ [] in
+    let arrived : List (ℕ × Item) = (n, item) ∷ old.received.early in
+    let to = received.expected in
+    let expected : old.received.expected ≡ reach = s.expected in
+    let window : old.received.window ≡ w = s.window in
+    let new_number : (ltb n reach || has_number (numbers_of taken) n) ≡ false
+    = sym (is_taken-is w h old n s) ∙ untaken in
+    let absent : has_number (numbers_of taken) n ≡ false
+    = (or_parts (ltb n reach) (has_number (numbers_of taken) n) new_number).1 in
+    let within : n < reach + w = omega arith in
+    let same : (k : ℕ) → reach ≤ k → item_with arrived k ≡ item_at more k
+    = arrived-is w h n item old s absent in
+    let grows : reach ≤ to = let g = r.grows in omega arith in
+    let reached : least_absent (numbers_of more) ≡ to = least_absent-unique (numbers_of more) to
+    (sym (is_some-item_at more to) ∙ ap is_some (sym (same to grows) ∙ r.missing))
+    (λ k below. ⊎_elim
+    (λ (old_number : k < reach). ap (λ (l : List ℕ). has_number l k)
+    (numbers_of-append taken ((n, item) ∷ []))
+    ∙ has_number-more (numbers_of taken) (n ∷ []) k
+    ((least_absent-is (numbers_of taken)).1 k old_number))
+    (λ (above : reach ≤ k). sym (is_some-item_at more k) ∙ ap is_some (sym (same k above))
+    ∙ r.there k (omega arith) below)
+    (cases_lt k reach)) in
+    let list : items ≡ items_released_by taken n item
+    = r.released
+    ∙ ap (λ (k : ℕ). items_in_order arrived k to) expected
+    ∙ filter_map-agree (item_with arrived) (item_at more) reach (to - reach)
+    (λ k low high. same k low)
+    ∙ ap (items_between more reach) (sym reached) in
+    let given : answer_to_heard w h (Incoming.Stream n id item) ≡ Heard.Released items
+    = open_heard w h (Incoming.Stream n id item) (sym s.closed ∙ unclosed)
+    ∙ released_is w h n item new_number within
+    ∙ ap (λ (l : List Item). Heard.Released l) (sym list) in
+    let zero : due_count h (lowest_unacked h) + 0 ≡ due_count h (lowest_unacked h) = omega arith in
+    let after = due_count (h ++ e ∷ []) (lowest_unacked (h ++ e ∷ [])) in
+    let dues : after ≡ due_count h (lowest_unacked h) = dues-same h e refl ∙ zero in
+    goes w h new (stream_call now n id item) (EndAnswer.Heard (Heard.Released items)) legal
+    (inl (ap (λ (a : Heard). EndAnswer.Heard a) (sym given))) (record {
+      queue = rw is
+          (s.queue ∙ queue_after-is w h ∙ ap (queue_of w (sending h)) (sym dues)
+          ∙ ap (λ (t : Sending). queue_of w t after) (sym (sending-still (sending h))));
+      window = rw is (r.window ∙ window);
+      expected = rw is (sym reached);
+      early = λ k. rw is
+          (r.early k ∙ later k more arrived same grows
+          ∙ ap (λ (l : ℕ). cond (ltb k l) None (item_at more k)) (sym reached));
+      estimate = rw is (s.estimate ∙ ap after_samples (sym (append-nil (round_trip_samples h))));
+      owed = rw is
+          (ap (λ (k : ℕ). owed_with k old.owed n id) window
+          ∙ ap (λ (l : List (ℕ × List ℕ)). owed_with w l n id) s.owed);
+      up = rw is s.up;
+      paused = rw is s.paused;
+      closed = rw is (s.closed ∙ sym (or-false (is_closed h)));
+    })
+  where
+    later : (k : ℕ) (more arrived : List (ℕ × Item))
+        → ((j : ℕ) → next_in_order h ≤ j → item_with arrived j ≡ item_at more j)
+        → next_in_order h ≤ received.expected
+        → cond (ltb k received.expected) None (item_with arrived k) ≡ cond
+        (ltb k received.expected) None (item_at more k)
+    later k more arrived same grows =
+        ⊎_elim
+        (λ (low : k < received.expected). rw (lt-ltb k received.expected low) refl)
+        (λ (high : received.expected ≤ k). rw (le-ltb k received.expected high)
+        (same k (omega arith)))
+        (cases_lt k received.expected)
+
+-- ---- the answers of the receive window
+
+-- an answer other than Late is given for a number that wasn't taken
+pub untaken : (taken : Bool) (answer : Take)
+    → (answer ≡ Take.Late → ⊥)
+    → (IsTrue taken → answer ≡ Take.Late)
+    → taken ≡ false
+untaken taken answer other late = false_from_ne_true taken (λ is. other (late is))
+
+-- an answer other than Beyond is given for a number inside the window
+pub inside : (n edge : ℕ) (answer : Take)
+    → (answer ≡ Take.Beyond → ⊥)
+    → (edge ≤ n → answer ≡ Take.Beyond)
+    → n < edge
+inside n edge answer other beyond = ⊎_elim (λ (near : n < edge). near)
+    (λ (far : edge ≤ n). absurd (other (beyond far))) (cases_lt n edge)
+
+pub released-late : (items : List Item) → Take.Released items ≡ Take.Late → ⊥
+released-late items is = cc
+
+pub released-beyond : (items : List Item) → Take.Released items ≡ Take.Beyond → ⊥
+released-beyond items is = cc
+
+pub beyond-late : Take.Beyond ≡ Take.Late → ⊥
+beyond-late is = cc

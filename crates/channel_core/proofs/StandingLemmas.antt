@@ -1,0 +1,295 @@
+-- What an end keeps, one entry on.
+use Rattle.std.proofs.Common.{◌≡◌, ◌≢◌, ℕ, ◌+◌, ◌-◌, ◌<◌, ◌≤◌, Bool, true, false, not, cond, ◌||◌, ◌&&◌, Option, Some, None, List, [], ◌∷◌, ◌++◌, ◌⊎◌, inl, inr, ⊎_elim, refl, sym, ap, subst, ◌∙◌, arith, length, eqb, ltb, slice_get}
+use Rattle.std.specs.List.{cons_option, count_by, filter_map}
+use Rattle.std.proofs.lemmas.List.{append-nil}
+use Rattle.agent_message.specs.declared.item.Item.{Item}
+use Rattle.resend_queue.specs.Queue.{Pending, QueueState, empty_queue}
+use Rattle.resend_queue.specs.RoundTrips.{RoundTrip, after_samples, no_sample}
+use Rattle.receive_window.specs.Window.{WindowState, empty_window, item_with}
+use Rattle.channel_core.specs.declared.call.EndAnswer.{EndAnswer}
+use Rattle.channel_core.specs.declared.call.EndCall.{EndCall}
+use Rattle.channel_core.specs.Call.{Entry, with_earlier}
+use Rattle.channel_core.specs.History.{Message, acked_numbers, closes, is_closed, is_paused, is_up, item_taken, lowest_unacked, next_in_order, number_acked, owed_acks, owed_after, paused_after, put_messages, taken_items, up_after}
+use Rattle.channel_core.specs.Legal.{IsAnswered, IsLegal}
+use Rattle.channel_core.specs.Numbers.{has_number, item_at, least_absent, numbers_of}
+use Rattle.channel_core.specs.Resending.{due_count, is_due, round_trip, round_trip_samples, sample_of}
+use Rattle.channel_core.specs.Stands.{EndState, Stands, queue_after}
+use Rattle.channel_core.proofs.HistoryLemmas.{acked_numbers-push, is_closed-push, is_paused-push, is_up-push, owed_acks-push, round_trip_samples-push, taken_items-push}
+use Rattle.channel_core.proofs.LegalLemmas.{IsLegal-push}
+use Rattle.channel_core.proofs.PendingLemmas.{Sending, kept_all, kept_all-unacked}
+use Rattle.channel_core.proofs.SendingLemmas.{due_count-push, sending, sending-push, sending_after}
+
+-- the send queue that this makes
+abbrev pub queue_of : ℕ → Sending → ℕ → QueueState
+queue_of w s dues = record { window = w; next = length s.put; pending = kept_all s; dues = dues }
+
+pub queue_after-is : (w : ℕ) (h : List Entry)
+    → queue_after w h ≡ queue_of w (sending h) (due_count h (lowest_unacked h))
+queue_after-is w h =
+    ap (λ (ps : List Pending). record {
+      window = w;
+      next = length (put_messages h);
+      pending = ps;
+      dues = due_count h (lowest_unacked h);
+    }) (kept_all-unacked (sending h))
+
+-- what was taken, with this entry
+abbrev pub taken_after : List Entry → Entry → List (ℕ × Item)
+taken_after h e = taken_items h ++ cons_option (item_taken e.answer e.call) []
+
+-- the end keeps what the entries tell, with this one more
+pub record Keeps (w : ℕ) (end : EndState) (h : List Entry) (e : Entry) : Type 0 where
+  pub queue : end.queue ≡ queue_of w (sending_after (sending h) e.answer e.call)
+      (due_count (h ++ e ∷ []) (lowest_unacked (h ++ e ∷ [])))
+  pub window : end.received.window ≡ w
+  pub expected : end.received.expected ≡ least_absent (numbers_of (taken_after h e))
+  pub early : (n : ℕ)
+      → item_with end.received.early n ≡ cond
+      (ltb n (least_absent (numbers_of (taken_after h e)))) None (item_at (taken_after h e) n)
+  pub estimate : end.estimate ≡ after_samples
+      (round_trip_samples h ++ cons_option (sample_of h e.answer e.call) [])
+  pub owed : end.owed ≡ owed_after w (owed_acks w h) e.answer e.call
+  pub up : end.up ≡ up_after (is_up h) e.call
+  pub paused : end.paused ≡ paused_after (is_paused h) e.answer e.call
+  pub closed : end.closed ≡ (is_closed h || closes e.answer e.call)
+
+-- a choice that fails leaves the other
+pub or-false : (b : Bool) → (b || false) ≡ b
+or-false true = refl
+or-false false = refl
+
+pub stands : (w : ℕ) (end : EndState) (h : List Entry) (e : Entry)
+    → Keeps w end h e
+    → Stands w end (h ++ e ∷ [])
+stands w end h e k =
+    let taken = taken_items-push h e in
+    record {
+      queue = k.queue
+          ∙ ap (λ (s : Sending). queue_of w s
+          (due_count (h ++ e ∷ []) (lowest_unacked (h ++ e ∷ [])))) (sym (sending-push h e))
+          ∙ sym (queue_after-is w (h ++ e ∷ []));
+      window = k.window;
+      expected = k.expected ∙ ap (λ (l : List (ℕ × Item)). least_absent (numbers_of l)) (sym taken);
+      early = λ n. k.early n ∙ ap
+          (λ (l : List (ℕ × Item)). cond (ltb n (least_absent (numbers_of l))) None (item_at l n))
+          (sym taken);
+      estimate = k.estimate ∙ ap after_samples (sym (round_trip_samples-push h e));
+      owed = k.owed ∙ sym (owed_acks-push w h e);
+      up = k.up ∙ sym (is_up-push h e);
+      paused = k.paused ∙ sym (is_paused-push h e);
+      closed = k.closed ∙ ap (λ (b : Bool). is_closed h || b)
+          (sym (or-false (closes e.answer e.call))) ∙ sym (is_closed-push h e);
+    }
+
+-- with this entry the history is legal, and the end stands for it
+abbrev pub Goes : ℕ → List Entry → EndState → EndCall → EndAnswer → Type 0
+Goes w h end call answer =
+    IsLegal w (h ++ record { call = call; answer = answer } ∷ []) × Stands w end
+    (h ++ record { call = call; answer = answer } ∷ [])
+
+pub goes : (w : ℕ) (h : List Entry) (end : EndState) (call : EndCall) (answer : EndAnswer)
+    → IsLegal w h
+    → IsAnswered w h call answer
+    → Keeps w end h (record { call = call; answer = answer })
+    → Goes w h end call answer
+goes w h end call answer legal answered keeps = (
+  IsLegal-push w h (record { call = call; answer = answer }) legal answered,
+  stands w end h
+      (record { call = call; answer = answer }) keeps,
+)
+
+-- an entry that takes nothing and samples nothing
+pub step_goes : (w : ℕ) (h : List Entry) (old new : EndState) (call : EndCall) (answer : EndAnswer)
+    → IsLegal w h
+    → Stands w old h
+    → IsAnswered w h call answer
+    → item_taken answer call ≡ None
+    → sample_of h answer call ≡ None
+    → (let e : Entry = record { call = call; answer = answer } in
+    new.queue ≡ queue_of w (sending_after (sending h) answer call)
+    (due_count (h ++ e ∷ []) (lowest_unacked (h ++ e ∷ []))))
+    → new.received ≡ old.received
+    → new.estimate ≡ old.estimate
+    → new.owed ≡ owed_after w old.owed answer call
+    → new.up ≡ up_after old.up call
+    → new.paused ≡ paused_after old.paused answer call
+    → new.closed ≡ (old.closed || closes answer call)
+    → Goes w h new call answer
+step_goes w h old new call answer legal s answered takes_none samples_none queue received estimate owed up paused closed =
+    let e : Entry = record { call = call; answer = answer } in
+    let taken : taken_after h e ≡ taken_items h
+    = ap (λ (o : Option (ℕ × Item)). taken_items h ++ cons_option o []) takes_none
+    ∙ append-nil (taken_items h) in
+    goes w h new call answer legal answered (record {
+      queue = queue;
+      window = ap (λ (r : WindowState). r.window) received ∙ s.window;
+      expected = ap (λ (r : WindowState). r.expected) received ∙ s.expected
+          ∙ ap (λ (l : List (ℕ × Item)). least_absent (numbers_of l)) (sym taken);
+      early = λ n. ap (λ (r : WindowState). item_with r.early n) received ∙ s.early n
+          ∙ ap (λ (l : List (ℕ × Item)). cond (ltb n (least_absent (numbers_of l))) None
+          (item_at l n)) (sym taken);
+      estimate = estimate ∙ s.estimate ∙ ap after_samples
+          (sym (ap (λ (o : Option ℕ). round_trip_samples h ++ cons_option o []) samples_none
+          ∙ append-nil (round_trip_samples h)));
+      owed = owed ∙ ap (λ (l : List (ℕ × List ℕ)). owed_after w l answer call) s.owed;
+      up = up ∙ ap (λ (b : Bool). up_after b call) s.up;
+      paused = paused ∙ ap (λ (b : Bool). paused_after b answer call) s.paused;
+      closed = closed ∙ ap (λ (b : Bool). b || closes answer call) s.closed;
+    })
+
+-- how often the lowest timer expired, with an entry that acknowledges nothing
+pub dues-same : (h : List Entry) (e : Entry) → number_acked e.answer ≡ None
+    → due_count (h ++ e ∷ []) (lowest_unacked (h ++ e ∷ [])) ≡ due_count h (lowest_unacked h) + cond
+    (is_due (lowest_unacked h) e.answer) 1 0
+dues-same h e none =
+    let acked : acked_numbers (h ++ e ∷ []) ≡ acked_numbers h = acked_numbers-push h e
+    ∙ ap (λ (o : Option ℕ). acked_numbers h ++ cons_option o []) none
+    ∙ append-nil (acked_numbers h) in
+    ap (λ (l : List ℕ). due_count (h ++ e ∷ []) (least_absent l)) acked
+    ∙ due_count-push h e (lowest_unacked h)
+
+-- a message was put
+pub sending-put : (s : Sending) (m : Message)
+    → record {
+      put = s.put ++ m ∷ [];
+      acked = s.acked ++ [];
+      emitted = s.emitted ++ [];
+      moments = s.moments ++ [];
+      sent = s.sent;
+      due = s.due;
+    } ≡ record s { put = s.put ++ m ∷ [] }
+sending-put s m = rw (append-nil s.acked, append-nil s.emitted, append-nil s.moments) refl
+
+-- a number was acknowledged
+pub sending-acked : (s : Sending) (n : ℕ)
+    → record {
+      put = s.put ++ [];
+      acked = s.acked ++ n ∷ [];
+      emitted = s.emitted ++ [];
+      moments = s.moments ++ [];
+      sent = s.sent;
+      due = s.due;
+    } ≡ record s {
+      acked =
+          s.acked ++ n ∷ [];
+    }
+sending-acked s n = rw (append-nil s.put, append-nil s.emitted, append-nil s.moments) refl
+
+-- a message was given out
+pub sending-emitted : (s : Sending) (emitted : List ℕ) (moments : List (ℕ × ℕ)) (sent due : List ℕ)
+    → record {
+      put = s.put ++ [];
+      acked = s.acked ++ [];
+      emitted = emitted;
+      moments = moments;
+      sent = sent;
+      due = due;
+    } ≡ record s {
+      emitted = emitted;
+      moments = moments;
+      sent = sent;
+      due = due;
+    }
+sending-emitted s emitted moments sent due = rw (append-nil s.put, append-nil s.acked) refl
+
+-- nothing was put, acknowledged, sent or marked
+pub sending-still : (s : Sending)
+    → record {
+      put = s.put ++ [];
+      acked = s.acked ++ [];
+      emitted = s.emitted ++ [];
+      moments = s.moments ++ [];
+      sent = s.sent;
+      due = s.due;
+    } ≡ s
+sending-still s = rw
+    (append-nil s.put, append-nil s.acked, append-nil s.emitted, append-nil s.moments) refl
+
+-- an entry that puts, acknowledges, sends, marks and takes nothing
+pub record IsStill (h : List Entry) (call : EndCall) (answer : EndAnswer) : Type 0 where
+  pub sending : (s : Sending) → sending_after s answer call ≡ s
+  pub acked : number_acked answer ≡ None
+  pub taken : item_taken answer call ≡ None
+  pub sample : sample_of h answer call ≡ None
+  pub due : (n : ℕ) → is_due n answer ≡ false
+
+pub still_goes : (w : ℕ) (h : List Entry) (old new : EndState) (call : EndCall) (answer : EndAnswer)
+    → IsLegal w h
+    → Stands w old h
+    → IsAnswered w h call answer
+    → IsStill h call answer
+    → new.queue ≡ old.queue
+    → new.received ≡ old.received
+    → new.estimate ≡ old.estimate
+    → new.owed ≡ owed_after w old.owed answer call
+    → new.up ≡ up_after old.up call
+    → new.paused ≡ paused_after old.paused answer call
+    → new.closed ≡ (old.closed || closes answer call)
+    → Goes w h new call answer
+still_goes w h old new call answer legal s answered still queue received estimate owed up paused closed =
+    let e : Entry = record { call = call; answer = answer } in
+    let zero : due_count h (lowest_unacked h) + 0 ≡ due_count h (lowest_unacked h) = omega arith in
+    let dues : due_count (h ++ e ∷ []) (lowest_unacked (h ++ e ∷ [])) ≡ due_count h
+    (lowest_unacked h)
+    = dues-same h e still.acked ∙ ap (λ (b : Bool). due_count h (lowest_unacked h) + cond b 1 0)
+    (still.due (lowest_unacked h)) ∙ zero in
+    step_goes w h old new call answer legal s answered still.taken still.sample
+    (queue ∙ s.queue ∙ queue_after-is w h
+    ∙ ap (λ (t : Sending). queue_of w t (due_count h (lowest_unacked h)))
+    (sym (still.sending (sending h)))
+    ∙ ap (λ (n : ℕ). queue_of w (sending_after (sending h) answer call) n) (sym dues))
+    received estimate owed up paused closed
+
+-- nothing changes
+pub nothing_goes : (w : ℕ) (h : List Entry) (old new : EndState) (call : EndCall)
+    (answer : EndAnswer)
+    → IsLegal w h
+    → Stands w old h
+    → new ≡ old
+    → IsAnswered w h call answer
+    → IsStill h call answer
+    → ((l : List (ℕ × List ℕ)) → owed_after w l answer call ≡ l)
+    → ((b : Bool) → up_after b call ≡ b)
+    → ((b : Bool) → paused_after b answer call ≡ b)
+    → closes answer call ≡ false
+    → Goes w h new call answer
+nothing_goes w h old new call answer legal s same answered still owed up paused closes =
+    still_goes w h old new call answer legal s answered still
+    (ap (λ (e : EndState). e.queue) same) (ap (λ (e : EndState). e.received) same)
+    (ap (λ (e : EndState). e.estimate) same)
+    (ap (λ (e : EndState). e.owed) same ∙ sym (owed old.owed))
+    (ap (λ (e : EndState). e.up) same ∙ sym (up old.up))
+    (ap (λ (e : EndState). e.paused) same ∙ sym (paused old.paused))
+    (ap (λ (e : EndState). e.closed) same ∙ sym (or-false old.closed)
+    ∙ ap (λ (b : Bool). old.closed || b) (sym closes))
+
+-- ---- a new end
+
+none_early : (b : Bool) → cond {A = Option Item} b None None ≡ None
+none_early true = refl
+none_early false = refl
+
+-- a new end stands for no calls
+pub stands_nil : (w : ℕ) (end : EndState)
+    → end ≡ record {
+      queue = empty_queue w;
+      received = empty_window w;
+      estimate = no_sample;
+      owed = [];
+      up = false;
+      paused = false;
+      closed = false;
+    }
+    → Stands w end []
+unfolding put_messages acked_numbers taken_items owed_acks is_up is_paused is_closed round_trip_samples with_earlier after_samples least_absent
+stands_nil w end is = rw is (record {
+  queue = refl;
+  window = refl;
+  expected = refl;
+  early = λ n. sym (none_early (ltb n 0));
+  estimate = refl;
+  owed = refl;
+  up = refl;
+  paused = refl;
+  closed = refl;
+})

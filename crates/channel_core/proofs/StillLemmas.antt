@@ -1,0 +1,316 @@
+-- Entries that put, acknowledge, send, mark and take nothing; losses, closings and openings.
+use Rattle.std.proofs.Common.{◌≡◌, ◌≢◌, ℕ, ◌+◌, ◌-◌, ◌^◌, ◌<◌, ◌≤◌, max, Bool, true, false, not, cond, ◌||◌, ◌&&◌, Option, Some, None, List, [], ◌∷◌, ◌++◌, ◌⊎◌, inl, inr, ⊎_elim, refl, sym, ap, subst, ◌∙◌, arith, length, map, filter, find, drop, eqb, leb, ltb, slice_get}
+use Rattle.std.specs.List.{cons_option, filter_map}
+use Rattle.std.specs.Option.{option_and_then, option_map}
+use Rattle.std.proofs.lemmas.Bool.{and_left, and_parts, and_right, both_ways, cases_Bool, cases_eq, cases_lt, cond_both, eq-eqb, eqb-true, false_from_ne_true, le-ltb, lt-ltb, ltb-true, ne_eqb, not-false, not-true, not_from_false, not_from_true, or_left, or_right, or_from}
+use Rattle.std.proofs.lemmas.List.{append-nil, length_push}
+use Rattle.std.proofs.lemmas.Option.{slice_get_within}
+use Rattle.agent_message.specs.declared.item.Item.{Item}
+use Rattle.resend_queue.specs.declared.kept.Kept.{Kept}
+use Rattle.resend_queue.specs.declared.kept.Kept.TheVariants as Kept
+use Rattle.resend_queue.specs.declared.mark.Mark.{Mark}
+use Rattle.resend_queue.specs.declared.mark.Mark.TheVariants as Mark
+use Rattle.resend_queue.specs.declared.out.Out.{Out}
+use Rattle.resend_queue.specs.declared.out.Out.TheVariants as Out
+use Rattle.resend_queue.specs.declared.sent.Sent.{Sent}
+use Rattle.resend_queue.specs.Queue.{Pending, QueueState, after_ack, after_mark, after_out, after_put, changed_at, first_eligible, first_number, is_eligible as may_go, is_overdue, is_past, lowest, mark_answer, mark_answer_of, marked, moment_of, new_message, out_of, put_answer, reopened, transmitted, unsent, without_number}
+use Rattle.resend_queue.specs.RoundTrips.{RoundTrip, after_sample, after_samples}
+use Rattle.channel_core.specs.declared.call.EndAnswer.{EndAnswer}
+use Rattle.channel_core.specs.declared.call.EndAnswer.TheVariants as EndAnswer
+use Rattle.channel_core.specs.declared.call.EndCall.{EndCall}
+use Rattle.channel_core.specs.declared.call.EndCall.TheVariants as EndCall
+use Rattle.channel_core.specs.declared.hearing.Heard.{Heard}
+use Rattle.channel_core.specs.declared.hearing.Heard.TheVariants as Heard
+use Rattle.channel_core.specs.declared.hearing.Incoming.{Incoming}
+use Rattle.channel_core.specs.declared.hearing.Incoming.TheVariants as Incoming
+use Rattle.channel_core.specs.declared.look.Look.{Look}
+use Rattle.channel_core.specs.declared.pulling.Outgoing.{Outgoing}
+use Rattle.channel_core.specs.declared.pulling.Outgoing.TheVariants as Outgoing
+use Rattle.channel_core.specs.declared.pulling.Pull.{Pull}
+use Rattle.channel_core.specs.declared.pulling.Pull.TheVariants as Pull
+use Rattle.channel_core.specs.declared.put.Put.{Put}
+use Rattle.channel_core.specs.declared.put.Put.TheVariants as Put
+use Rattle.channel_core.specs.declared.tick.Tick.{Tick}
+use Rattle.channel_core.specs.declared.tick.Tick.TheVariants as Tick
+use Rattle.channel_core.specs.Call.{Entry}
+use Rattle.channel_core.specs.History.{Message, acked_numbers, closes, emitted_numbers, is_closed, is_paused, is_up, item_taken, lowest_unacked, next_in_order, number_acked, owed_acks, owed_after, owed_with, paused_after, put_messages, taken_items, up_after}
+use Rattle.channel_core.specs.Legal.{IsAnswered, IsLegal, answer_to_ack, answer_to_heard, answer_to_incoming, answer_to_pull, answer_to_put, answer_to_tick, emit_message, emit_next, emit_number, is_expired, look_at}
+use Rattle.channel_core.specs.Numbers.{has_number, item_at, least_absent, least_below, numbers_of}
+use Rattle.channel_core.specs.Resending.{due_count, is_due, is_eligible, last_moment, marked_due, round_trip, round_trip_samples, sample_of, sent_since_opened, transmissions}
+use Rattle.channel_core.specs.Stands.{EndState, Stands, queue_after}
+use Rattle.channel_core.proofs.HistoryLemmas.{acked_numbers-push}
+use Rattle.channel_core.proofs.NumberLemmas.{least_absent-grows, least_absent-is, least_absent-unique, least_below-some, has_number-last, has_number-more, has_number-other}
+use Rattle.channel_core.proofs.PendingLemmas.{Sending, kept_all, kept_all-acked, kept_all-emitted, kept_all-marked, kept_all-put, kept_all-unsent, kept_at, message_of, slice_get-past}
+use Rattle.channel_core.proofs.SearchLemmas.{find-least, find_number, first_number-kept, kept_all-first, kept_all-none, least_below-agree, message_there, passes_at}
+use Rattle.channel_core.proofs.SendingLemmas.{IsOrderly, due_count-above, low-le, orderly, sending, sending_after}
+use Rattle.channel_core.proofs.StandingLemmas.{Goes, IsStill, Keeps, dues-same, goes, nothing_goes, or-false, queue_after-is, queue_of, sending-acked, sending-emitted, sending-put, sending-still, step_goes, still_goes}
+
+pub or-true : (b : Bool) → (b || true) ≡ true
+or-true true = refl
+or-true false = refl
+
+pub lost_still : (h : List Entry) → IsStill h EndCall.Lost EndAnswer.Done
+lost_still h =
+    record {
+      sending = λ s. sending-still s;
+      acked = refl;
+      taken = refl;
+      sample = refl;
+      due = λ n. refl;
+    }
+
+pub close_still : (h : List Entry) → IsStill h EndCall.Close EndAnswer.Done
+close_still h =
+    record {
+      sending = λ s. sending-still s;
+      acked = refl;
+      taken = refl;
+      sample = refl;
+      due = λ n. refl;
+    }
+
+pub put_closed_still : (h : List Entry) (item back : Item) (id : List ℕ) (now : ℕ)
+    → IsStill h (EndCall.Put item id now) (EndAnswer.Put (Put.Closed back))
+put_closed_still h item back id now =
+    record {
+      sending = λ s. sending-still s;
+      acked = refl;
+      taken = refl;
+      sample = refl;
+      due = λ n. refl;
+    }
+
+pub put_spent_still : (h : List Entry) (item back : Item) (id : List ℕ) (now : ℕ)
+    → IsStill h (EndCall.Put item id now) (EndAnswer.Put (Put.Spent back))
+put_spent_still h item back id now =
+    record {
+      sending = λ s. sending-still s;
+      acked = refl;
+      taken = refl;
+      sample = refl;
+      due = λ n. refl;
+    }
+
+pub put_full_still : (h : List Entry) (item back : Item) (id : List ℕ) (now : ℕ)
+    → IsStill h (EndCall.Put item id now) (EndAnswer.Put (Put.Full back))
+put_full_still h item back id now =
+    record {
+      sending = λ s. sending-still s;
+      acked = refl;
+      taken = refl;
+      sample = refl;
+      due = λ n. refl;
+    }
+
+pub put_nomemory_still : (h : List Entry) (item back : Item) (id : List ℕ) (now : ℕ)
+    → IsStill h (EndCall.Put item id now) (EndAnswer.Put (Put.NoMemory back))
+put_nomemory_still h item back id now =
+    record {
+      sending = λ s. sending-still s;
+      acked = refl;
+      taken = refl;
+      sample = refl;
+      due = λ n. refl;
+    }
+
+pub idle_still : (h : List Entry) (now : ℕ)
+    → IsStill h (EndCall.Pull now) (EndAnswer.Pull Pull.Idle)
+idle_still h now =
+    record {
+      sending = λ s. sending-still s;
+      acked = refl;
+      taken = refl;
+      sample = refl;
+      due = λ n. refl;
+    }
+
+pub pull_nomemory_still : (h : List Entry) (now : ℕ)
+    → IsStill h (EndCall.Pull now) (EndAnswer.Pull Pull.NoMemory)
+pull_nomemory_still h now =
+    record {
+      sending = λ s. sending-still s;
+      acked = refl;
+      taken = refl;
+      sample = refl;
+      due = λ n. refl;
+    }
+
+pub emit_ack_still : (h : List Entry) (now n : ℕ) (id : List ℕ) (date : ℕ)
+    → IsStill h (EndCall.Pull now) (EndAnswer.Pull (Pull.Emit (Outgoing.Ack n id date)))
+emit_ack_still h now n id date =
+    record {
+      sending = λ s. sending-still s;
+      acked = refl;
+      taken = refl;
+      sample = refl;
+      due = λ n. refl;
+    }
+
+pub late_still : (h : List Entry) (now n : ℕ) (id : List ℕ) (item : Item)
+    → IsStill h (EndCall.Heard now (Incoming.Stream n id item)) (EndAnswer.Heard Heard.Late)
+late_still h now n id item =
+    record {
+      sending = λ s. sending-still s;
+      acked = refl;
+      taken = refl;
+      sample = refl;
+      due = λ n. refl;
+    }
+
+pub beyond_still : (h : List Entry) (now n : ℕ) (id : List ℕ) (item : Item)
+    → IsStill h (EndCall.Heard now (Incoming.Stream n id item)) (EndAnswer.Heard Heard.Beyond)
+beyond_still h now n id item =
+    record {
+      sending = λ s. sending-still s;
+      acked = refl;
+      taken = refl;
+      sample = refl;
+      due = λ n. refl;
+    }
+
+pub unknown_still : (h : List Entry) (now n : ℕ)
+    → IsStill h (EndCall.Heard now (Incoming.Ack n)) (EndAnswer.Heard (Heard.UnknownAck n))
+unknown_still h now n =
+    record {
+      sending = λ s. sending-still s;
+      acked = refl;
+      taken = refl;
+      sample = refl;
+      due = λ n. refl;
+    }
+
+pub paused_still : (h : List Entry) (now : ℕ)
+    → IsStill h (EndCall.Heard now Incoming.Pause) (EndAnswer.Heard Heard.Paused)
+paused_still h now =
+    record {
+      sending = λ s. sending-still s;
+      acked = refl;
+      taken = refl;
+      sample = refl;
+      due = λ n. refl;
+    }
+
+pub started_still : (h : List Entry) (now : ℕ)
+    → IsStill h (EndCall.Heard now Incoming.Start) (EndAnswer.Heard Heard.Started)
+started_still h now =
+    record {
+      sending = λ s. sending-still s;
+      acked = refl;
+      taken = refl;
+      sample = refl;
+      due = λ n. refl;
+    }
+
+pub ended_still : (h : List Entry) (now : ℕ) (output : List ℕ)
+    → IsStill h (EndCall.Heard now (Incoming.Closing output)) (EndAnswer.Heard Heard.Ended)
+ended_still h now output =
+    record {
+      sending = λ s. sending-still s;
+      acked = refl;
+      taken = refl;
+      sample = refl;
+      due = λ n. refl;
+    }
+
+pub after_close_still : (h : List Entry) (now : ℕ) (incoming : Incoming)
+    → IsStill h (EndCall.Heard now incoming) (EndAnswer.Heard Heard.AfterClose)
+after_close_still h now incoming =
+    record {
+      sending = λ s. sending-still s;
+      acked = refl;
+      taken = refl;
+      sample = refl;
+      due = λ n. refl;
+    }
+
+pub heard_nomemory_still : (h : List Entry) (now : ℕ) (incoming : Incoming)
+    → IsStill h (EndCall.Heard now incoming) (EndAnswer.Heard (Heard.NoMemory incoming))
+heard_nomemory_still h now incoming =
+    record {
+      sending = λ s. sending-still s;
+      acked = refl;
+      taken = refl;
+      sample = refl;
+      due = λ n. refl;
+    }
+
+pub nothing_still : (h : List Entry) (now : ℕ)
+    → IsStill h (EndCall.Tick now) (EndAnswer.Tick Tick.Nothing)
+nothing_still h now =
+    record {
+      sending = λ s. sending-still s;
+      acked = refl;
+      taken = refl;
+      sample = refl;
+      due = λ n. refl;
+    }
+
+pub gave_up_still : (h : List Entry) (now n : ℕ)
+    → IsStill h (EndCall.Tick now) (EndAnswer.Tick (Tick.GaveUp n))
+gave_up_still h now n =
+    record {
+      sending = λ s. sending-still s;
+      acked = refl;
+      taken = refl;
+      sample = refl;
+      due = λ n. refl;
+    }
+
+pub look_still : (h : List Entry) (look : Look) → IsStill h EndCall.Look (EndAnswer.Look look)
+look_still h look =
+    record {
+      sending = λ s. sending-still s;
+      acked = refl;
+      taken = refl;
+      sample = refl;
+      due = λ n. refl;
+    }
+
+-- ---- losses and closings
+
+pub lost_goes : (w : ℕ) (h : List Entry) (old new : EndState)
+    → IsLegal w h
+    → Stands w old h
+    → new ≡ record old { up = false }
+    → Goes w h new EndCall.Lost EndAnswer.Done
+lost_goes w h old new legal s is =
+    still_goes w h old new EndCall.Lost EndAnswer.Done legal s (inl refl) (lost_still h)
+    (rw is refl) (rw is refl) (rw is refl) (rw is refl) (rw is refl) (rw is refl)
+    (rw is (sym (or-false old.closed)))
+
+pub close_goes : (w : ℕ) (h : List Entry) (old new : EndState)
+    → IsLegal w h
+    → Stands w old h
+    → new ≡ record old { closed = true }
+    → Goes w h new EndCall.Close EndAnswer.Done
+close_goes w h old new legal s is =
+    still_goes w h old new EndCall.Close EndAnswer.Done legal s (inl refl) (close_still h)
+    (rw is refl) (rw is refl) (rw is refl) (rw is refl) (rw is refl) (rw is refl)
+    (rw is (sym (or-true old.closed)))
+
+-- ---- an opening
+
+pub opened_goes : (w : ℕ) (h : List Entry) (now : ℕ) (old new : EndState)
+    → IsLegal w h
+    → Stands w old h
+    → new ≡ record old { up = true; paused = false; queue = reopened old.queue }
+    → Goes w h new (EndCall.Opened now) EndAnswer.Done
+opened_goes w h now old new legal s is =
+    let e : Entry = record { call = EndCall.Opened now; answer = EndAnswer.Done } in
+    let t = sending h in
+    let zero : due_count h (lowest_unacked h) + 0 ≡ due_count h (lowest_unacked h) = omega arith in
+    let dues : due_count (h ++ e ∷ []) (lowest_unacked (h ++ e ∷ [])) ≡ due_count h
+    (lowest_unacked h) = dues-same h e refl ∙ zero in
+    step_goes w h old new (EndCall.Opened now) EndAnswer.Done legal s (inl refl) refl refl
+    (rw is (ap reopened (s.queue ∙ queue_after-is w h)
+    ∙ ap (λ (ps : List Pending). record {
+      window = w;
+      next = length (put_messages h);
+      pending = ps;
+      dues = due_count h (lowest_unacked h);
+    }) (sym (kept_all-unsent t))
+    ∙ ap (λ (n : ℕ). queue_of w (record t { sent = [] }) n) (sym dues)
+    ∙ ap (λ (u : Sending). queue_of w u (due_count (h ++ e ∷ []) (lowest_unacked (h ++ e ∷ []))))
+    (sym (sending-still (record t { sent = [] })))))
+    (rw is refl) (rw is refl) (rw is refl) (rw is refl) (rw is refl)
+    (rw is (sym (or-false old.closed)))

@@ -1,0 +1,232 @@
+-- Ticks and looks: from what an end keeps to the entry that follows.
+use Rattle.std.proofs.Common.{◌≡◌, ◌≢◌, ℕ, ◌+◌, ◌-◌, ◌^◌, ◌<◌, ◌≤◌, max, Bool, true, false, not, cond, ◌||◌, ◌&&◌, Option, Some, None, List, [], ◌∷◌, ◌++◌, ◌⊎◌, inl, inr, ⊎_elim, refl, sym, ap, subst, ◌∙◌, arith, length, map, filter, find, drop, eqb, leb, ltb, slice_get}
+use Rattle.std.specs.List.{cons_option, filter_map}
+use Rattle.std.specs.Option.{option_and_then, option_map}
+use Rattle.std.proofs.lemmas.Grind.{fold-append}
+use Rattle.std.proofs.lemmas.Bool.{and_left, and_parts, and_right, both_ways, cases_Bool, cases_eq, cases_lt, cond_both, eq-eqb, eqb-true, false_from_ne_true, le-ltb, lt-ltb, ltb-true, ne_eqb, not-false, not-true, not_from_false, not_from_true, or_left, or_right, or_from}
+use Rattle.std.proofs.lemmas.List.{append-nil, length_push}
+use Rattle.std.proofs.lemmas.Option.{slice_get_within}
+use Rattle.agent_message.specs.declared.item.Item.{Item}
+use Rattle.resend_queue.specs.declared.kept.Kept.{Kept}
+use Rattle.resend_queue.specs.declared.kept.Kept.TheVariants as Kept
+use Rattle.resend_queue.specs.declared.mark.Mark.{Mark}
+use Rattle.resend_queue.specs.declared.mark.Mark.TheVariants as Mark
+use Rattle.resend_queue.specs.declared.out.Out.{Out}
+use Rattle.resend_queue.specs.declared.out.Out.TheVariants as Out
+use Rattle.resend_queue.specs.declared.sent.Sent.{Sent}
+use Rattle.resend_queue.specs.Queue.{Pending, QueueState, after_ack, after_mark, after_out, after_put, changed_at, first_eligible, first_number, is_eligible as may_go, is_overdue, is_past, lowest, mark_answer, mark_answer_of, marked, moment_of, new_message, out_of, put_answer, reopened, transmitted, unsent, without_number}
+use Rattle.resend_queue.specs.RoundTrips.{RoundTrip, after_sample, after_samples, no_sample}
+use Rattle.channel_core.specs.declared.call.EndAnswer.{EndAnswer}
+use Rattle.channel_core.specs.declared.call.EndAnswer.TheVariants as EndAnswer
+use Rattle.channel_core.specs.declared.call.EndCall.{EndCall}
+use Rattle.channel_core.specs.declared.call.EndCall.TheVariants as EndCall
+use Rattle.channel_core.specs.declared.hearing.Heard.{Heard}
+use Rattle.channel_core.specs.declared.hearing.Heard.TheVariants as Heard
+use Rattle.channel_core.specs.declared.hearing.Incoming.{Incoming}
+use Rattle.channel_core.specs.declared.hearing.Incoming.TheVariants as Incoming
+use Rattle.channel_core.specs.declared.look.Look.{Look}
+use Rattle.channel_core.specs.declared.pulling.Outgoing.{Outgoing}
+use Rattle.channel_core.specs.declared.pulling.Outgoing.TheVariants as Outgoing
+use Rattle.channel_core.specs.declared.pulling.Pull.{Pull}
+use Rattle.channel_core.specs.declared.pulling.Pull.TheVariants as Pull
+use Rattle.channel_core.specs.declared.put.Put.{Put}
+use Rattle.channel_core.specs.declared.put.Put.TheVariants as Put
+use Rattle.channel_core.specs.declared.tick.Tick.{Tick}
+use Rattle.channel_core.specs.declared.tick.Tick.TheVariants as Tick
+use Rattle.channel_core.specs.Call.{Entry}
+use Rattle.channel_core.specs.History.{Message, acked_numbers, closes, emitted_numbers, is_closed, is_paused, is_up, item_taken, lowest_unacked, next_in_order, number_acked, owed_acks, owed_after, owed_with, paused_after, put_messages, taken_items, up_after}
+use Rattle.channel_core.specs.Legal.{IsAnswered, IsLegal, answer_to_ack, answer_to_heard, answer_to_incoming, answer_to_pull, answer_to_put, answer_to_tick, emit_message, emit_next, emit_number, is_expired, look_at}
+use Rattle.channel_core.specs.Numbers.{has_number, item_at, least_absent, least_below, numbers_of}
+use Rattle.channel_core.specs.Resending.{due_count, is_due, is_eligible, last_moment, marked_due, round_trip, round_trip_samples, sample_of, sent_since_opened, transmissions}
+use Rattle.channel_core.specs.Stands.{EndState, Stands, queue_after}
+use Rattle.channel_core.proofs.HistoryLemmas.{acked_numbers-push}
+use Rattle.channel_core.proofs.NumberLemmas.{least_absent-grows, least_absent-is, least_absent-unique, least_below-some, has_number-last, has_number-more, has_number-other}
+use Rattle.channel_core.proofs.PendingLemmas.{Sending, kept_all, kept_all-acked, kept_all-emitted, kept_all-marked, kept_all-put, kept_all-unsent, kept_at, message_of, slice_get-past}
+use Rattle.channel_core.proofs.SearchLemmas.{find-least, find_number, first_number-kept, kept_all-first, kept_all-none, least_below-agree, message_there, passes_at}
+use Rattle.channel_core.proofs.SendingLemmas.{IsOrderly, due_answered, due_count-above, due_count-push, low-le, orderly, sending, sending_after}
+use Rattle.channel_core.proofs.StandingLemmas.{Goes, IsStill, Keeps, dues-same, goes, nothing_goes, or-false, queue_after-is, queue_of, sending-acked, sending-emitted, sending-put, sending-still, step_goes, still_goes}
+use Rattle.channel_core.proofs.StillLemmas.{after_close_still, beyond_still, emit_ack_still, ended_still, gave_up_still, heard_nomemory_still, idle_still, late_still, look_still, nothing_still, or-true, paused_still, pull_nomemory_still, put_closed_still, put_full_still, put_nomemory_still, put_spent_still, started_still, unknown_still}
+
+down_tick : (h : List Entry) (now : ℕ)
+    → (is_closed h || not (is_up h)) ≡ true
+    → answer_to_tick h now ≡ Tick.Nothing
+unfolding answer_to_tick
+down_tick h now down = rw down refl
+
+pub tick_down_goes : (w : ℕ) (h : List Entry) (now : ℕ) (old : EndState)
+    → IsLegal w h
+    → Stands w old h
+    → (old.closed || not old.up) ≡ true
+    → Goes w h old (EndCall.Tick now) (EndAnswer.Tick Tick.Nothing)
+tick_down_goes w h now old legal s down =
+    nothing_goes w h old old (EndCall.Tick now) (EndAnswer.Tick Tick.Nothing) legal s refl
+    (inl (ap (λ (a : Tick). EndAnswer.Tick a)
+    (sym (down_tick h now (rw (← s.closed, ← s.up) down)))))
+    (nothing_still h now) (λ l. refl) (λ b. refl) (λ b. refl) refl
+
+-- the answer of an end to a tick
+abbrev pub tick_of : Mark → Tick
+tick_of Mark.Nothing = Tick.Nothing
+tick_of (Mark.Due n) = Tick.Due n
+tick_of (Mark.GaveUp n) = Tick.GaveUp n
+
+-- the timer of a message expires where the history says so
+overdue-expired : (h : List Entry) (n now : ℕ) (m : Message) → IsOrderly (sending h)
+    → is_overdue (message_of (sending h) n m) now (round_trip h).timeout ≡ is_expired h n now
+overdue-expired h n now m order =
+    at (has_number (sent_since_opened h) n) (has_number (emitted_numbers h) n) (order.sent n)
+  where
+    late : Bool
+    late = ltb (round_trip h).timeout (now - last_moment (transmissions h) n)
+
+    at : (b c : Bool) → (b ≡ true → c ≡ true)
+        → (b && (not (has_number (marked_due h) n) && is_past
+        (cond c (Some (last_moment (transmissions h) n)) None) now (round_trip h).timeout))
+        ≡ (b && (not (has_number (marked_due h) n) && ltb (round_trip h).timeout
+        (now - last_moment (transmissions h) n)))
+    at false c out = refl
+    at true true out = refl
+    at true false out = let never : false ≡ true = out refl in cc
+
+-- the queue's answer is the one that the rules give
+answer_to_tick-mark : (w : ℕ) (h : List Entry) (now : ℕ)
+    → IsOrderly (sending h)
+    → (is_closed h || not (is_up h)) ≡ false
+    → answer_to_tick h now ≡ tick_of
+    (mark_answer (queue_of w (sending h) (due_count h (lowest_unacked h))) now
+    (round_trip h).timeout)
+unfolding answer_to_tick
+answer_to_tick-mark w h now order up =
+    ⊎_elim
+    (λ (some : low < length (put_messages h)).
+    let first = kept_all-first (sending h) some in
+    let m = first.0 in
+    rw (
+      up,
+      ne_eqb low (length (put_messages h)) (λ e. omega arith),
+      first.3,
+      overdue-expired h low now m order,
+    )
+    (through (is_expired h low now) (leb 3000 (due_count h low))))
+    (λ (none : length (put_messages h) ≤ low).
+    let same : low ≡ length (put_messages h) = let most = low-le (sending h) order in omega arith in
+    rw (up, eq-eqb low (length (put_messages h)) same, kept_all-none (sending h) same) refl)
+    (cases_lt low (length (put_messages h)))
+  where
+    low : ℕ
+    low = lowest_unacked h
+
+    through : (a b : Bool)
+        → cond (not a) Tick.Nothing (cond b (Tick.GaveUp low) (Tick.Due low)) ≡ tick_of
+        (cond (not a) Mark.Nothing (cond b (Mark.GaveUp low) (Mark.Due low)))
+    through false b = refl
+    through true true = refl
+    through true false = refl
+
+-- the lowest message is due
+due_goes : (w : ℕ) (h : List Entry) (now n : ℕ) (old new : EndState) → IsLegal w h → Stands w old h
+    → Tick.Due n ≡ answer_to_tick h now
+    → new ≡ record old { queue = after_mark old.queue (Mark.Due n) }
+    → Goes w h new (EndCall.Tick now) (EndAnswer.Tick (Tick.Due n))
+due_goes w h now n old new legal s given is =
+    let t = sending h in
+    let e : Entry = record { call = EndCall.Tick now; answer = EndAnswer.Tick (Tick.Due n) } in
+    let answered : IsAnswered w h (EndCall.Tick now) (EndAnswer.Tick (Tick.Due n))
+    = inl (ap (λ (a : Tick). EndAnswer.Tick a) given) in
+    let low : n ≡ lowest_unacked h = (due_answered w h (EndCall.Tick now) n answered).0 in
+    let more : Sending = record t { due = marked_due h ++ n ∷ [] } in
+    let after = due_count (h ++ e ∷ []) (lowest_unacked (h ++ e ∷ [])) in
+    let count : due_count h (lowest_unacked h) + 1 ≡ after
+    = sym (dues-same h e refl ∙ ap (λ (b : Bool). due_count h (lowest_unacked h) + cond b 1 0)
+    (eq-eqb (lowest_unacked h) n (sym low))) in
+    let queue : after_mark old.queue (Mark.Due n) ≡ queue_of w
+    (sending_after t (EndAnswer.Tick (Tick.Due n)) (EndCall.Tick now)) after
+    = ap (λ (q : QueueState). after_mark q (Mark.Due n)) (s.queue ∙ queue_after-is w h)
+    ∙ ap (λ (ps : List Pending). record {
+      window = w;
+      next = length (put_messages h);
+      pending = ps;
+      dues = due_count h (lowest_unacked h) + 1;
+    }) (sym (kept_all-marked t n))
+    ∙ ap (λ (k : ℕ). queue_of w more k) count
+    ∙ ap (λ (u : Sending). queue_of w u after) (sym (sending-still more)) in
+    step_goes w h old new (EndCall.Tick now)
+    (EndAnswer.Tick (Tick.Due n)) legal s answered refl refl
+    (rw is queue) (rw is refl) (rw is refl) (rw is refl) (rw is refl) (rw is refl)
+    (rw is (sym (or-false old.closed)))
+
+-- an end after a tick, by the answer of the queue
+abbrev pub ticked : EndState → Mark → EndState
+ticked old (Mark.GaveUp n) = record old { closed = true }
+ticked old mark = record old { queue = after_mark old.queue mark }
+
+-- a tick, by the answer of the queue
+pub tick_goes : (w : ℕ) (h : List Entry) (now : ℕ) (mark : Mark) (old new : EndState)
+    → IsLegal w h
+    → Stands w old h
+    → (old.closed || not old.up) ≡ false
+    → mark ≡ mark_answer old.queue now old.estimate.timeout
+    → new ≡ ticked old mark
+    → Goes w h new (EndCall.Tick now) (EndAnswer.Tick (tick_of mark))
+tick_goes w h now mark old new legal s up answer is =
+    let same : mark ≡ mark_answer (queue_of w (sending h) (due_count h (lowest_unacked h))) now
+    (round_trip h).timeout
+    = answer ∙ ap (λ (q : QueueState). mark_answer q now old.estimate.timeout)
+    (s.queue ∙ queue_after-is w h)
+    ∙ ap (λ (r : RoundTrip). mark_answer
+    (queue_of w (sending h) (due_count h (lowest_unacked h))) now r.timeout) s.estimate in
+    by mark is
+    (sym (answer_to_tick-mark w h now (orderly w h legal) (rw (← s.closed, ← s.up) up)
+    ∙ ap tick_of (sym same)))
+  where
+    by : (k : Mark)
+        → new ≡ ticked old k
+        → tick_of k ≡ answer_to_tick h now
+        → Goes w h new (EndCall.Tick now) (EndAnswer.Tick (tick_of k))
+    by Mark.Nothing is given =
+        nothing_goes w h old new (EndCall.Tick now) (EndAnswer.Tick Tick.Nothing) legal s is
+        (inl (ap (λ (a : Tick). EndAnswer.Tick a) given)) (nothing_still h now) (λ l. refl)
+        (λ b. refl) (λ b. refl) refl
+    by (Mark.Due n) is given = due_goes w h now n old new legal s given is
+    by (Mark.GaveUp n) is given =
+        still_goes w h old new (EndCall.Tick now) (EndAnswer.Tick (Tick.GaveUp n)) legal s
+        (inl (ap (λ (a : Tick). EndAnswer.Tick a) given)) (gave_up_still h now n)
+        (rw is refl) (rw is refl) (rw is refl) (rw is refl) (rw is refl) (rw is refl)
+        (rw is (sym (or-true old.closed)))
+
+-- ---- looks
+
+-- what an end tells of itself
+abbrev pub look_of : EndState → Look
+look_of end =
+    record {
+      next = end.queue.next;
+      low = lowest end.queue;
+      expected = end.received.expected;
+      room = cond end.closed 0 (end.received.window - (end.queue.next - lowest end.queue));
+      closed = end.closed;
+    }
+
+look_at-is : (w : ℕ) (h : List Entry) (end : EndState)
+    → IsLegal w h
+    → Stands w end h
+    → look_of end ≡ look_at w h
+unfolding look_at
+look_at-is w h end legal s =
+    let queue : end.queue ≡ queue_of w (sending h) (due_count h (lowest_unacked h)) = s.queue
+    ∙ queue_after-is w h in
+    let low : lowest end.queue ≡ lowest_unacked h = ap lowest queue
+    ∙ first_number-kept (sending h) (low-le (sending h) (orderly w h legal)) in
+    let next : end.queue.next ≡ length (put_messages h) = ap (λ (q : QueueState). q.next) queue in
+    rw (low, next, s.expected, s.window, s.closed) refl
+
+pub look_goes : (w : ℕ) (h : List Entry) (look : Look) (old new : EndState)
+    → IsLegal w h
+    → Stands w old h
+    → new ≡ old
+    → look ≡ look_of old
+    → Goes w h new EndCall.Look (EndAnswer.Look look)
+look_goes w h look old new legal s is look_is =
+    nothing_goes w h old new EndCall.Look (EndAnswer.Look look) legal s is
+    (inl (ap (λ (l : Look). EndAnswer.Look l) (look_is ∙ look_at-is w h old legal s)))
+    (look_still h look) (λ l. refl) (λ b. refl) (λ b. refl) refl

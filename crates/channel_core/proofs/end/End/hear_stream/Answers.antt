@@ -1,0 +1,55 @@
+use Rattle.std.proofs.Common.{◌≡◌, ◌+◌, refl, sym, ◌∙◌, ap}
+use Rattle.agent_message.specs.declared.item.Item.{Item}
+use Rattle.receive_window.specs.declared.take.Take.TheVariants as Take
+use Rattle.receive_window.specs.Window.{is_taken}
+use Rattle.channel_core.specs.declared.hearing.Heard.TheVariants as Heard
+use Rattle.channel_core.specs.declared.hearing.Incoming.TheVariants as Incoming
+use Rattle.channel_core.specs.declared.call.EndAnswer.TheVariants as EndAnswer
+use Rattle.channel_core.proofs.StandingLemmas.{Goes}
+use Rattle.channel_core.proofs.HearingLemmas.{beyond_goes, heard_none_goes, late_goes, stream_call}
+use Rattle.channel_core.proofs.ReleaseLemmas.{beyond-late, inside, released-beyond, released-late, released_goes, untaken}
+use Rattle.channel_core.proofs.end.End.hear_stream.Goals as goal
+
+pub returns-in-Released : goal.returns-in-Released
+returns-in-Released c now w h legal s =
+    let before = c.self.inside in
+    let items = c.in-Released.items in
+    let known = c.in-Released.ensures in
+    released_goes w h now c.args.seq c.args.id c.args.item items c.take.new.self c.args.self.now _ legal s c.requires.open
+    (rw (← c.self.view_is)
+    (untaken (is_taken before.received c.args.seq) (Take.Released items)
+    (released-late items) known.late.1))
+    (rw (← c.self.view_is)
+    (inside c.args.seq (before.received.expected + before.received.window) (Take.Released items)
+    (released-beyond items) known.beyond.1))
+    (rw (← c.self.view_is) known.released)
+    (rw (← c.self.view_is, c.owe.ensures.owed, ← c.self.invariant.0) refl)
+
+pub returns-in-Late : goal.returns-in-Late
+returns-in-Late c now w h legal s =
+    late_goes w h now c.args.seq c.args.id c.args.item c.args.self.now _ legal s c.requires.open
+    (rw (← c.self.view_is) (c.in-Late.ensures.late.0 refl))
+    (rw (
+      ← c.self.view_is,
+      c.owe-in-Late.ensures.owed,
+      c.in-Late.ensures.refused,
+      ← c.self.invariant.0,
+    ) refl)
+
+pub returns-in-Beyond : goal.returns-in-Beyond
+returns-in-Beyond c now w h legal s =
+    let before = c.self.inside in
+    let known = c.in-Beyond.ensures in
+    beyond_goes w h now c.args.seq c.args.id c.args.item c.args.self.now _ legal s c.requires.open
+    (rw (← c.self.view_is)
+    (untaken (is_taken before.received c.args.seq) Take.Beyond beyond-late known.late.1))
+    (rw (← c.self.view_is) (known.beyond.0 refl))
+    (rw (← c.self.view_is, known.refused) refl)
+
+pub returns-in-NoMemory : goal.returns-in-NoMemory
+returns-in-NoMemory c now w h legal s =
+    let known = c.in-NoMemory.ensures.refused in
+    rw known.0
+    (heard_none_goes w h now
+    (Incoming.Stream c.args.seq c.args.id c.args.item) c.args.self.now _ legal s
+    (rw (← c.self.view_is, known.1) refl))

@@ -1,0 +1,33 @@
+use Rattle.std.proofs.Common.{◌≡◌, ◌-◌, refl, sym, ◌∙◌, ap, cond, ℕ}
+use Rattle.resend_queue.specs.Queue.{lowest}
+use Rattle.channel_core.specs.Stands.{EndState}
+use Rattle.channel_core.proofs.TickLemmas.{look_goes}
+use Rattle.channel_core.proofs.end.End.look.Goals as goal
+use Rattle.channel_core.proofs.end.End.look.Goals.{then-self, else-self}
+
+-- the room of the window
+room_is : (c : goal.After-expected)
+    → c.if-self.room ≡ cond c.self.inside.closed 0
+    (c.self.inside.received.window - (c.self.inside.queue.next - lowest c.self.inside.queue))
+room_is c = elim c.if-self.branch [
+  | then-self w ↦ w.room-is ∙ rw w.if-self.true refl
+  | else-self w ↦ w.room-is ∙ rw (
+    w.if-self.false,
+    w.saturating_sub-room.ensures,
+    w.saturating_sub.ensures,
+    c.next-next.ensures,
+    c.low-low.ensures,
+    c.self.invariant.0,
+  ) refl
+]
+
+pub returns : goal.returns
+returns c w h legal s =
+    look_goes w h _ c.args.self.now _ legal s refl
+    (rw (
+      ← c.self.view_is,
+      c.next-next.ensures,
+      c.low-low.ensures,
+      c.expected.ensures,
+      room_is c,
+    ) refl)

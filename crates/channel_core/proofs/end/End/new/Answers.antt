@@ -1,0 +1,12 @@
+use Rattle.std.proofs.Common.{◌≡◌, refl, sym, ◌∙◌, ap}
+use Rattle.channel_core.proofs.StandingLemmas.{stands_nil}
+use Rattle.channel_core.proofs.end.End.new.Goals as goal
+
+pub returns : goal.returns
+returns c = stands_nil c.args.window _
+    (rw (
+      c.in_ok-new.ensures,
+      c.in_ok-new-2.ensures,
+      c.new-3.ensures,
+      c.in_ok-with_capacity.ensures.items,
+    ) refl)

@@ -1,0 +1,5 @@
+use Rattle.channel_core.proofs.DeliveryLemmas.{released_is_in_order}
+use Rattle.channel_core.proofs.laws.released_is_in_order.Goals as goal
+
+pub returns : goal.returns
+returns c = released_is_in_order

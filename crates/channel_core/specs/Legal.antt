@@ -1,0 +1,137 @@
+-- Which answer each call gets after the entries before it, and which histories there may be.
+use Rattle.std.specs.Prelude.{◌≡◌, ℕ, ◌+◌, ◌-◌, ◌^◌, max, Bool, not, ◌&&◌, ◌||◌, ◌⊎◌, Option, Some, None, List, [], ◌∷◌, ◌++◌, length, if◌then◌else◌, nat_eq, nat_le, nat_lt, slice_get}
+use Rattle.std.specs.List.{All}
+use Rattle.agent_message.specs.declared.item.Item.{Item}
+use Rattle.channel_core.specs.declared.call.EndAnswer.{EndAnswer}
+use Rattle.channel_core.specs.declared.call.EndCall.{EndCall}
+use Rattle.channel_core.specs.declared.hearing.Heard.{Heard}
+use Rattle.channel_core.specs.declared.hearing.Incoming.{Incoming}
+use Rattle.channel_core.specs.declared.look.Look.{Look}
+use Rattle.channel_core.specs.declared.pulling.Outgoing.TheVariants as Outgoing
+use Rattle.channel_core.specs.declared.pulling.Pull.{Pull}
+use Rattle.channel_core.specs.declared.put.Put.{Put}
+use Rattle.channel_core.specs.declared.tick.Tick.{Tick}
+use Rattle.channel_core.specs.Call.{Entry, with_earlier}
+use Rattle.channel_core.specs.History.{Message, acked_numbers, emitted_numbers, is_closed, is_paused, is_up, lowest_unacked, next_in_order, owed_acks, put_messages, taken_items}
+use Rattle.channel_core.specs.Numbers.{has_number, items_between, least_absent, least_below, numbers_of}
+use Rattle.channel_core.specs.Resending.{due_count, is_eligible, last_moment, marked_due, round_trip, sent_since_opened, transmissions}
+
+-- to a put: the next number, unless the end is closed, the numbers are spent or the window is full
+unfoldable pub answer_to_put : ℕ → List Entry → Item → Put
+answer_to_put w h item =
+    if is_closed h then Put.Closed item
+    else if nat_eq (length (put_messages h)) (2 ^ 63 - 1) then Put.Spent item
+    else if nat_eq (length (put_messages h) - lowest_unacked h) w then Put.Full item
+    else Put.Seq (length (put_messages h))
+
+-- what is in order once this item is taken too: from the old next number up to the new one
+abbrev pub items_released_by : List (ℕ × Item) → ℕ → Item → List Item
+items_released_by taken n item =
+    let more = taken ++ (n, item) ∷ [] in
+    items_between more (least_absent (numbers_of taken)) (least_absent (numbers_of more))
+
+-- to a stream message: late if it was taken before, beyond if it is outside the window
+unfoldable pub answer_to_stream : ℕ → List Entry → ℕ → Item → Heard
+answer_to_stream w h n item =
+    if nat_lt n (next_in_order h) || has_number (numbers_of (taken_items h)) n then Heard.Late
+    else if nat_le (next_in_order h + w) n then Heard.Beyond
+    else Heard.Released (items_released_by (taken_items h) n item)
+
+-- to an acknowledgement: it counts once, for a number that was given out
+unfoldable pub answer_to_ack : List Entry → ℕ → Heard
+answer_to_ack h n =
+    if has_number (emitted_numbers h) n && not (has_number (acked_numbers h) n)
+    then Heard.Acked n
+    else Heard.UnknownAck n
+
+-- to what an end hears while it is not closed
+abbrev pub answer_to_incoming : ℕ → List Entry → Incoming → Heard
+answer_to_incoming w h (Incoming.Stream n id item) = answer_to_stream w h n item
+answer_to_incoming w h (Incoming.Ack n) = answer_to_ack h n
+answer_to_incoming w h Incoming.Pause = Heard.Paused
+answer_to_incoming w h Incoming.Start = Heard.Started
+answer_to_incoming w h (Incoming.Closing output) = Heard.Ended
+
+-- to what an end hears
+abbrev pub answer_to_heard : ℕ → List Entry → Incoming → Heard
+answer_to_heard w h incoming =
+    if is_closed h then Heard.AfterClose else answer_to_incoming w h incoming
+
+-- the message as it goes out with its number
+abbrev pub emit_message : ℕ → Option Message → Pull
+emit_message n None = Pull.Idle
+emit_message n (Some m) =
+    Pull.Emit (Outgoing.Stream (record { seq = n; id = m.id; date = m.date; item = m.item }))
+
+-- the message with this number goes out
+abbrev pub emit_number : List Entry → Option ℕ → Pull
+emit_number h None = Pull.Idle
+emit_number h (Some n) = emit_message n (slice_get (put_messages h) n)
+
+-- the first acknowledgement that is owed goes out, or else the lowest number that may go
+abbrev pub emit_next : List Entry → ℕ → List (ℕ × List ℕ) → Pull
+emit_next h now (p ∷ owed) = Pull.Emit (Outgoing.Ack p.0 p.1 (max now 1))
+emit_next h now [] =
+    if is_paused h then Pull.Idle
+    else emit_number h (least_below (is_eligible h) (length (put_messages h)))
+
+-- to a pull: acknowledgements go before stream messages, and nothing goes where the end is not up
+unfoldable pub answer_to_pull : ℕ → List Entry → ℕ → Pull
+answer_to_pull w h now =
+    if is_closed h || not (is_up h) then Pull.Idle else emit_next h now (owed_acks w h)
+
+-- whether the timer of a number has expired: it was sent on the present connection, is not marked,
+-- and more than the timeout has passed since its last transmission
+abbrev pub is_expired : List Entry → ℕ → ℕ → Bool
+is_expired h n now =
+    has_number (sent_since_opened h) n
+    && (not (has_number (marked_due h) n)
+    && nat_lt (round_trip h).timeout (now - last_moment (transmissions h) n))
+
+-- to a tick: it looks at the lowest unacknowledged number alone, and gives up after 3,000 times
+unfoldable pub answer_to_tick : List Entry → ℕ → Tick
+answer_to_tick h now =
+    let n = lowest_unacked h in
+    if is_closed h || not (is_up h) then Tick.Nothing
+    else if nat_eq n (length (put_messages h)) then Tick.Nothing
+    else if not (is_expired h n now) then Tick.Nothing
+    else if nat_le 3000 (due_count h n) then Tick.GaveUp n
+    else Tick.Due n
+
+-- to a look
+unfoldable pub look_at : ℕ → List Entry → Look
+look_at w h =
+    record {
+      next = length (put_messages h);
+      low = lowest_unacked h;
+      expected = next_in_order h;
+      room = if is_closed h then 0 else w - (length (put_messages h) - lowest_unacked h);
+      closed = is_closed h;
+    }
+
+-- the one answer to a call after these entries, at an end with the window w
+abbrev pub answer_to : ℕ → List Entry → EndCall → EndAnswer
+answer_to w h (EndCall.Put item id now) = EndAnswer.Put (answer_to_put w h item)
+answer_to w h (EndCall.Heard now incoming) = EndAnswer.Heard (answer_to_heard w h incoming)
+answer_to w h (EndCall.Tick now) = EndAnswer.Tick (answer_to_tick h now)
+answer_to w h (EndCall.Pull now) = EndAnswer.Pull (answer_to_pull w h now)
+answer_to w h EndCall.Lost = EndAnswer.Done
+answer_to w h (EndCall.Opened now) = EndAnswer.Done
+answer_to w h EndCall.Close = EndAnswer.Done
+answer_to w h EndCall.Look = EndAnswer.Look (look_at w h)
+
+-- want of memory, which these calls may answer at any time
+abbrev pub IsNoMemory : EndCall → EndAnswer → Type 0
+IsNoMemory (EndCall.Put item id now) answer = answer ≡ EndAnswer.Put (Put.NoMemory item)
+IsNoMemory (EndCall.Heard now incoming) answer =
+    answer ≡ EndAnswer.Heard (Heard.NoMemory incoming)
+IsNoMemory (EndCall.Pull now) answer = answer ≡ EndAnswer.Pull Pull.NoMemory
+IsNoMemory call answer = ⊥
+
+-- the call got its answer, or there was no memory
+abbrev pub IsAnswered : ℕ → List Entry → EndCall → EndAnswer → Type 0
+IsAnswered w h call answer = (answer ≡ answer_to w h call) ⊎ IsNoMemory call answer
+
+-- a history of an end with the window w: each call got the answer due after the entries before it
+unfoldable pub IsLegal : ℕ → List Entry → Type 0
+IsLegal w h = All (λ p. IsAnswered w p.0 p.1.call p.1.answer) (with_earlier h)

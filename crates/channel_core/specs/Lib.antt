@@ -1,0 +1,12 @@
+pub mod Arrival
+pub mod Call
+pub mod Encodable
+pub mod Exchange
+pub mod History
+pub mod Laws
+pub mod Legal
+pub mod Numbers
+pub mod Resending
+pub mod Stands
+pub mod Wire
+pub mod World

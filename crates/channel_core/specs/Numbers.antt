@@ -1,0 +1,37 @@
+-- Numbers in a list, the least one that is missing, and items by their number.
+use Rattle.std.specs.Prelude.{ℕ, ◌+◌, ◌-◌, zero, suc, Bool, not, Option, Some, None, List, [], ◌∷◌, map, if◌then◌else◌, nat_eq, unwrap_or}
+use Rattle.std.specs.List.{filter_map, list_any, range_with_len, sum}
+use Rattle.agent_message.specs.declared.item.Item.{Item}
+
+-- whether the number is in the list
+abbrev pub has_number : List ℕ → ℕ → Bool
+has_number numbers n = list_any (nat_eq n) numbers
+
+-- the first value, or else the second
+abbrev pub or_else : {X : Type 0} → Option X → Option X → Option X
+or_else (Some x) other = Some x
+or_else None other = other
+
+-- the least number below the bound that passes the test
+abbrev pub least_below : (ℕ → Bool) → ℕ → Option ℕ
+least_below test zero = None
+least_below test (suc bound) =
+    or_else (least_below test bound) (if test bound then Some bound else None)
+
+-- the least number that is not in the list; it is at most one more than the sum
+unfoldable pub least_absent : List ℕ → ℕ
+least_absent numbers =
+    unwrap_or (least_below (λ n. not (has_number numbers n)) (sum numbers + 2)) 0
+
+-- the numbers of a list of numbered items
+abbrev pub numbers_of : List (ℕ × Item) → List ℕ
+numbers_of items = map (λ p. p.0) items
+
+-- the first item with this number
+abbrev pub item_at : List (ℕ × Item) → ℕ → Option Item
+item_at [] n = None
+item_at (p ∷ items) n = if nat_eq n p.0 then Some p.1 else item_at items n
+
+-- the items with the numbers from the first bound up to the second, by number
+abbrev pub items_between : List (ℕ × Item) → ℕ → ℕ → List Item
+items_between items from to = filter_map (item_at items) (range_with_len from (to - from))

@@ -1,0 +1,93 @@
+-- What an end keeps, and the histories that it stands for.
+use Rattle.std.specs.Prelude.{◌≡◌, ℕ, ◌^◌, ◌<◌, ◌≤◌, Bool, Option, Some, None, List, [], ◌∷◌, ◌++◌, length, if◌then◌else◌, nat_lt, slice_get}
+use Rattle.std.specs.List.{filter_map}
+use Rattle.std.specs.Option.{option_map}
+use Rattle.agent_message.specs.declared.item.Item.{Item}
+use Rattle.resend_queue.specs.Queue.{Pending, QueueState}
+use Rattle.resend_queue.specs.RoundTrips.{RoundTrip}
+use Rattle.receive_window.specs.Window.{WindowState, item_with}
+use Rattle.channel_core.specs.declared.call.EndAnswer.{EndAnswer}
+use Rattle.channel_core.specs.declared.call.EndCall.{EndCall}
+use Rattle.channel_core.specs.declared.hearing.Incoming.{Incoming}
+use Rattle.channel_core.specs.declared.hearing.Incoming.TheVariants as Incoming
+use Rattle.channel_core.specs.Call.{Entry}
+use Rattle.channel_core.specs.History.{Message, emitted_numbers, is_closed, is_paused, is_up, lowest_unacked, next_in_order, owed_acks, put_messages, taken_items, unacked_numbers}
+use Rattle.channel_core.specs.Legal.{IsLegal}
+use Rattle.channel_core.specs.Numbers.{has_number, item_at}
+use Rattle.channel_core.specs.Resending.{due_count, last_moment, marked_due, round_trip, sent_since_opened, transmissions}
+
+-- an end, as contracts see it
+pub record EndState : Type 0 where
+  -- the messages that were put in and are not acknowledged
+  pub queue : QueueState
+  -- the stream messages that were taken
+  pub received : WindowState
+  -- the retransmission timeout
+  pub estimate : RoundTrip
+  -- the acknowledgements that are owed: number and MessageId of what was heard
+  pub owed : List (ℕ × List ℕ)
+  -- it is connected
+  pub up : Bool
+  -- stream messages are held back
+  pub paused : Bool
+  -- it is closed
+  pub closed : Bool
+
+-- what the entries tell of the message with this number
+abbrev pub pending_message : List Entry → ℕ → Message → Pending
+pending_message h n m =
+    record {
+      seq = n;
+      id = m.id;
+      date = m.date;
+      item = m.item;
+      emitted =
+          if has_number (emitted_numbers h) n then Some (last_moment (transmissions h) n) else None;
+      sent = has_number (sent_since_opened h) n;
+      due = has_number (marked_due h) n;
+    }
+
+-- the send queue that the entries make: the unacknowledged messages, by number
+abbrev pub queue_after : ℕ → List Entry → QueueState
+queue_after w h =
+    record {
+      window = w;
+      next = length (put_messages h);
+      pending =
+          filter_map
+          (λ n. option_map (pending_message h n) (slice_get (put_messages h) n))
+          (unacked_numbers h);
+      dues = due_count h (lowest_unacked h);
+    }
+
+-- the early item with this number that the entries leave
+abbrev pub early_item : List Entry → ℕ → Option Item
+early_item h n = if nat_lt n (next_in_order h) then None else item_at (taken_items h) n
+
+-- an end with the window w keeps what the entries tell
+pub record Stands (w : ℕ) (end : EndState) (h : List Entry) : Type 0 where
+  pub queue : end.queue ≡ queue_after w h
+  pub window : end.received.window ≡ w
+  pub expected : end.received.expected ≡ next_in_order h
+  pub early : (n : ℕ) → item_with end.received.early n ≡ early_item h n
+  pub estimate : end.estimate ≡ round_trip h
+  pub owed : end.owed ≡ owed_acks w h
+  pub up : end.up ≡ is_up h
+  pub paused : end.paused ≡ is_paused h
+  pub closed : end.closed ≡ is_closed h
+
+-- one call more: whatever legal history the end stood for, with this entry it is legal, and the end
+-- stands for it
+abbrev pub Follows : EndState → EndState → EndCall → EndAnswer → Type 0
+Follows old new call answer =
+    let entry : Entry = record { call = call; answer = answer } in
+    (w : ℕ) (h : List Entry)
+    → IsLegal w h
+    → Stands w old h
+    → IsLegal w (h ++ entry ∷ []) × Stands w new (h ++ entry ∷ [])
+
+-- the number of what is heard is below 2^63
+abbrev pub IsNumbered : Incoming → Type 0
+IsNumbered (Incoming.Stream n id item) = n < 2 ^ 63
+IsNumbered (Incoming.Ack n) = n < 2 ^ 63
+IsNumbered incoming = Unit {0}

@@ -1,0 +1,255 @@
+//! One end of the data channel.
+//!
+//! Four calls bring input: `put` an item of the user, `heard` a message of the other end or the
+//! relay, `opened` and `lost` the state of the connection. `pull` polls for a message to transmit,
+//! `tick` serves the retransmission timer. A driver pulls until Idle after each input and each
+//! tick, and ticks from time to time. All moments are milliseconds.
+//!
+//! ```text
+//!              opened              heard Pause
+//!   not up  ------------>   up   ------------->  paused
+//!           <------------        <-------------
+//!               lost               heard Start
+//!
+//!   close, heard Closing or GaveUp, in any state: closed for good
+//! ```
+
+ghost use Rattle.std.specs.Prelude.{◌≡◌, ◌≤◌, ◌<◌, ◌^◌, ℕ, false, [], IfOk, length};
+ghost use Rattle.channel_core.specs.Encodable.{IfEmitted, IsEncodable};
+ghost use Rattle.channel_core.specs.Stands.{Follows, IsNumbered, Stands};
+ghost use Rattle.channel_core.specs.declared.call.EndAnswer.TheVariants as EndAnswer;
+ghost use Rattle.channel_core.specs.declared.call.EndCall.TheVariants as EndCall;
+ghost use Rattle.channel_core.specs.declared.hearing.Incoming.TheVariants as Incoming;
+
+use crate::owed::owe;
+use crate::{Heard, Incoming, Look, Outgoing, Pull, Put, Tick};
+use agent_message::{Item, MAX_PAYLOAD};
+use chan_io::{NoMemory, Side};
+use receive_window::{Take, Window};
+use resend_queue::{Estimate, Kept, Mark, Out, Queue};
+use std::alloc::Global;
+use std::collections::VecDeque;
+use std::marker::Model;
+
+/// One end of the data channel. It holds no clock and no connection.
+#[derive(Drop)]
+pub struct End {
+    window: u64,
+    queue: Queue,
+    received: Window,
+    estimate: Estimate,
+    owed: VecDeque<(u64, [u8; 16])>,
+    up: bool,
+    paused: bool,
+    closed: bool,
+}
+
+impl Model for End {
+    ghost use Rattle.std.specs.Prelude.{◌≡◌, ◌≤◌, ◌<◌, ◌^◌, All};
+    ghost use Rattle.std.specs.VecDeque.{deque_capacity};
+    ghost use Rattle.channel_core.specs.Encodable.{IfEmitted, IsEncodable};
+    ghost use Rattle.channel_core.specs.Stands.{EndState};
+
+    ghost Value = { EndState };
+
+    ghost view = { λ e. record {
+      queue = e.queue;
+      received = e.received;
+      estimate = e.estimate;
+      owed = e.owed.items;
+      up = e.up;
+      paused = e.paused;
+      closed = e.closed;
+    } };
+
+    ghost invariant = { λ e.
+        (e.received.window ≡ e.window)
+        × (e.window ≤ deque_capacity e.owed)
+        × All (λ p. p.0 < 2 ^ 63) e.owed.items };
+}
+
+impl End {
+    /// A new end, which is not connected, for a window of 1 to 10,000 messages. The side is not kept:
+    /// `wire::outgoing` and `wire::incoming` are told it.
+    pub fn new(alloc: Global, _side: Side, window: u64) -> Result<End, NoMemory>
+        requires low { 1 ≤ window }
+        requires high { window ≤ 10000 }
+        ensures { IfOk result (λ end. Stands window end []) }
+    {
+        Ok(End {
+            window,
+            queue: Queue::new(alloc, window)?,
+            received: Window::new(alloc, window)?,
+            estimate: Estimate::new(),
+            owed: VecDeque::with_capacity(alloc, window as usize)?,
+            up: false,
+            paused: false,
+            closed: false,
+        })
+    }
+
+    /// A connection was made. Each unacknowledged message may go out on it.
+    pub fn opened(&mut self, now: u64)
+        ensures { Follows self.old self.new (EndCall.Opened now) EndAnswer.Done }
+    {
+        self.up = true;
+        self.paused = false;
+        self.queue.reopen();
+    }
+
+    /// The connection was lost. Nothing goes out until the next one.
+    pub fn lost(&mut self)
+        ensures { Follows self.old self.new EndCall.Lost EndAnswer.Done }
+    {
+        self.up = false;
+    }
+
+    /// Closes the end for good.
+    pub fn close(&mut self)
+        ensures { Follows self.old self.new EndCall.Close EndAnswer.Done }
+    {
+        self.closed = true;
+    }
+
+    /// Puts in an item of the user with a MessageId.
+    pub fn put(&mut self, item: Item, id: [u8; 16], now: u64) -> Put
+        requires { length item.payload ≤ MAX_PAYLOAD }
+        ensures { Follows self.old self.new (EndCall.Put item id now) (EndAnswer.Put result) }
+    {
+        if self.closed {
+            return Put::Closed(item);
+        }
+        match self.queue.put(item, id, now.max(1)) {
+            Kept::Seq(seq) => Put::Seq(seq),
+            Kept::Spent(item) => Put::Spent(item),
+            Kept::Full(item) => Put::Full(item),
+            Kept::NoMemory(item) => Put::NoMemory(item),
+        }
+    }
+
+    /// The next message to transmit: an acknowledgement that is owed, or else a stream message.
+    pub fn pull(&mut self, now: u64) -> Pull
+        ensures follows { Follows self.old self.new (EndCall.Pull now) (EndAnswer.Pull result) }
+        ensures encodable { IfEmitted result IsEncodable }
+    {
+        if self.closed || !self.up {
+            return Pull::Idle;
+        }
+        if let Some(ack) = self.owed.pop_front() {
+            let (seq, id) = ack;
+            return Pull::Emit(Outgoing::Ack {
+                seq,
+                id,
+                date: now.max(1),
+            });
+        }
+        if self.paused {
+            return Pull::Idle;
+        }
+        match self.queue.next_out(now) {
+            Out::Stream(sent) => Pull::Emit(Outgoing::Stream(sent)),
+            Out::Idle => Pull::Idle,
+            Out::NoMemory => Pull::NoMemory,
+        }
+    }
+
+    /// Hears a message of the other end or the relay.
+    pub fn heard(&mut self, now: u64, incoming: Incoming) -> Heard
+        requires { IsNumbered incoming }
+        ensures { Follows self.old self.new (EndCall.Heard now incoming) (EndAnswer.Heard result) }
+    {
+        if self.closed {
+            return Heard::AfterClose;
+        }
+        match incoming {
+            Incoming::Stream { seq, id, item } => self.hear_stream(seq, id, item),
+            Incoming::Ack { seq } => self.hear_ack(now, seq),
+            Incoming::Pause => {
+                self.paused = true;
+                Heard::Paused
+            }
+            Incoming::Start => {
+                self.paused = false;
+                Heard::Started
+            }
+            Incoming::Closing { .. } => {
+                self.closed = true;
+                Heard::Ended
+            }
+        }
+    }
+
+    /// Hears a stream message.
+    fn hear_stream(&mut self, seq: u64, id: [u8; 16], item: Item) -> Heard
+        requires open { self.old.closed ≡ false }
+        requires number { seq < 2 ^ 63 }
+        ensures { (now : ℕ)
+            → (let call = EndCall.Heard now (Incoming.Stream seq id item) in
+            Follows self.old self.new call (EndAnswer.Heard result)) }
+    {
+        match self.received.take(seq, item) {
+            Take::Released(items) => {
+                owe(&mut self.owed, self.window, seq, id);
+                Heard::Released(items)
+            }
+            Take::Late => {
+                owe(&mut self.owed, self.window, seq, id);
+                Heard::Late
+            }
+            Take::Beyond => Heard::Beyond,
+            Take::NoMemory(item) => Heard::NoMemory(Incoming::Stream { seq, id, item }),
+        }
+    }
+
+    /// Hears an acknowledgement.
+    fn hear_ack(&mut self, now: u64, seq: u64) -> Heard
+        requires { self.old.closed ≡ false }
+        ensures { let call = EndCall.Heard now (Incoming.Ack seq) in
+            Follows self.old self.new call (EndAnswer.Heard result) }
+    {
+        match self.queue.acked(seq) {
+            Some(moment) => {
+                self.estimate.sample(now.saturating_sub(moment));
+                Heard::Acked(seq)
+            }
+            None => Heard::UnknownAck(seq),
+        }
+    }
+
+    /// Serves the retransmission timer of the lowest unacknowledged message.
+    pub fn tick(&mut self, now: u64) -> Tick
+        ensures { Follows self.old self.new (EndCall.Tick now) (EndAnswer.Tick result) }
+    {
+        if self.closed || !self.up {
+            return Tick::Nothing;
+        }
+        match self.queue.mark_due(now, self.estimate.timeout()) {
+            Mark::Nothing => Tick::Nothing,
+            Mark::Due(seq) => Tick::Due(seq),
+            Mark::GaveUp(seq) => {
+                self.closed = true;
+                Tick::GaveUp(seq)
+            }
+        }
+    }
+
+    /// Where the end stands.
+    pub fn look(&self) -> Look
+        ensures { Follows self.now self.now EndCall.Look (EndAnswer.Look result) }
+    {
+        let next = self.queue.next();
+        let low = self.queue.low();
+        let room = if self.closed {
+            0
+        } else {
+            self.window.saturating_sub(next.saturating_sub(low))
+        };
+        Look {
+            next,
+            low,
+            expected: self.received.expected(),
+            room,
+            closed: self.closed,
+        }
+    }
+}

@@ -1,0 +1,59 @@
+//! The laws of the channel: what holds in every history of an end, and in every world of two ends.
+//!
+//! A world lists what happened at both ends, in order. It is legal where each call got the answer
+//! that `End` gives, and honest where each message that an end heard had been emitted by the other.
+//! It may lose, repeat and reorder messages, drop connections and pause the ends as it likes.
+//! A law is the contract of a function with an empty body, by the definitions of `specs/`.
+
+ghost use Rattle.channel_core.specs.Laws.{AcknowledgedHasArrived, EachNumberIsTakenOnce, ExchangeIsPossible, ExchangeIsShort, ExchangeReleasesAll, NothingIsBeyond, ReleasedIsInOrder, ReleasedIsPrefix, WindowBoundsMessages, WorldsGoOn};
+
+/// A world goes on with any call that gets its answer and hears only what was emitted.
+pub fn worlds_go_on()
+    ensures { WorldsGoOn }
+{}
+
+/// What each end released is a prefix of what the other end's user put in.
+pub fn released_is_prefix()
+    ensures { ReleasedIsPrefix }
+{}
+
+/// An end takes each sequence number at most once.
+pub fn each_number_is_taken_once()
+    ensures { EachNumberIsTakenOnce }
+{}
+
+/// What an end released are the items that it took, by number, up to the first that is missing.
+pub fn released_is_in_order()
+    ensures { ReleasedIsInOrder }
+{}
+
+/// What an end was told as acknowledged is at the other end: released, or early.
+pub fn acknowledged_has_arrived()
+    ensures { AcknowledgedHasArrived }
+{}
+
+/// No message is outside the receive window, however late it comes.
+pub fn nothing_is_beyond()
+    ensures { NothingIsBeyond }
+{}
+
+/// With the window w an end keeps at most w unacknowledged messages, w - 1 early items and w
+/// acknowledgements that it owes.
+pub fn window_bounds_messages()
+    ensures { WindowBoundsMessages }
+{}
+
+/// After any legal and honest world, one exchange without a loss releases all the rest.
+pub fn exchange_releases_all()
+    ensures { ExchangeReleasesAll }
+{}
+
+/// There is such an exchange where neither end is closed.
+pub fn exchange_is_possible()
+    ensures { ExchangeIsPossible }
+{}
+
+/// Such an exchange takes at most 2w + 1 pulls of each end, the last of which finds nothing.
+pub fn exchange_is_short()
+    ensures { ExchangeIsShort }
+{}
