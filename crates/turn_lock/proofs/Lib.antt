@@ -1,0 +1,14 @@
+pub mod PlaceLemmas
+pub mod PrefixLemmas
+pub mod StageLemmas
+pub mod RuleLemmas
+pub mod TicketLemmas
+pub mod AdvanceLemmas
+pub mod SeatLemmas
+pub mod TableLemmas
+pub mod ShareLemmas
+pub mod SplitLemmas
+pub mod JoinLemmas
+pub mod RunLemmas
+pub mod WriterLemmas
+pub mod Crossing

@@ -1,0 +1,37 @@
+use denote.RattleType.{RattleType}
+use denote.Ref.{NamedLft}
+use denote.Builtin.{u64, unit}
+use denote.Param.Send.{IsSend, IsSync, sendable, struct_send, recorded_send, shr_send}
+use denote.Struct.Declared.{shape}
+use Rattle.turn_lock.specs.contracts.tests.Caller as Caller
+use Rattle.turn_lock.specs.contracts.tests.Counter as Counter
+use Rattle.turn_lock.specs.contracts.tests.CounterTurn.TheImpl as turns
+use Rattle.turn_lock.specs.contracts.seat.TurnLock as TurnLock
+use Rattle.turn_lock.proofs.Crossing.{Seat-send, Seat_field-send, TurnLock-sync}
+use Rattle.turn_lock.proofs.tests.call_from_two_threads.Goals as goal
+
+Counter-send : IsSend Counter.the_row
+Counter-send = search sendable depth 20
+
+-- a caller may go to another thread
+Caller-send : (κ : NamedLft) (R : RattleType) → IsSync R → IsSend (Caller.the_row κ R)
+Caller-send κ R y =
+    let lock : IsSync (TurnLock.the_row Counter.the_row unit u64 unit turns.ghosts) =
+    TurnLock-sync Counter.the_row unit u64 unit turns.ghosts Counter-send in
+    let seat = Seat_field-send Counter.the_row unit u64 unit turns.ghosts Counter-send in
+    recorded_send _ _ _ (Caller.the_type κ R).to_one (struct_send (shape (Caller.the_type κ R)) (
+      shr_send κ.mir κ.lft R y,
+      (shr_send κ.mir κ.lft (TurnLock.the_row Counter.the_row unit u64 unit turns.ghosts) lock, (seat, tt)),
+    ))
+
+pub run_both-one-requires-send-J : goal.run_both-one-requires-send-J
+run_both-one-requires-send-J g c κs within = search (sendable, Caller-send)
+
+pub run_both-one-requires-send-K : goal.run_both-one-requires-send-K
+run_both-one-requires-send-K g c κs within = search (sendable, Caller-send)
+
+pub run_both-one-requires-send-J-Done : goal.run_both-one-requires-send-J-Done
+run_both-one-requires-send-J-Done g c κs within = search (sendable, Seat-send) depth 20
+
+pub run_both-one-requires-send-K-Done : goal.run_both-one-requires-send-K-Done
+run_both-one-requires-send-K-Done g c κs within = search (sendable, Seat-send) depth 20
