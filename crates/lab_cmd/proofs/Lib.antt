@@ -1,0 +1,10 @@
+pub mod CallLemmas
+pub mod DueLemmas
+pub mod EmissionLemmas
+pub mod MeaningLemmas
+pub mod PairLemmas
+pub mod Reading
+pub mod RunLemmas
+pub mod ScriptLemmas
+pub mod StepLemmas
+pub mod WritingLemmas

@@ -1,0 +1,28 @@
+use Rattle.std.proofs.Common.{◌≡◌, ◌⊎◌, ⊎_elim, ℕ, Ok, Err, refl, sym, subst, ◌∙◌}
+use Rattle.chan_io.specs.Sides.{other}
+use Rattle.channel_core.specs.declared.hearing.Incoming.{Incoming}
+use Rattle.channel_core.specs.Exchange.{incoming_of}
+use Rattle.channel_core.specs.declared.wire.refusal.InRefusal.TheVariants as InRefusal
+use Rattle.std.proofs.lemmas.Result.{IfOk-from_err}
+use Rattle.lab_cmd.proofs.EmissionLemmas.{IsEmission, IsEmission-found}
+use Rattle.lab_cmd.proofs.hearing.hear.Goals as goal
+
+pub returns-in-Ok : goal.returns-in-Ok
+returns-in-Ok c k emitted sent sendable =
+    let side = other c.args.side in
+    let e : IsEmission side emitted c.args.which c.in-Some.bytes.now =
+    IsEmission-found side c.args.sent.now emitted c.args.which c.in-Some.bytes.now sent sendable c.in-Some.ensures in
+    let inverse = c.in-Ok.ensures.inverse e.out e.sendable.0 e.sendable.1 (c.as_slice.ensures ∙ e.encoded) in
+    let same : c.in-Ok.message ≡ incoming_of e.out =
+    ⊎_elim (λ is. cc) (λ is. cc) inverse in
+    rw (e.found, ← same) (c.hear_message.ensures c.args.side k)
+
+pub returns-in-Err : goal.returns-in-Err
+returns-in-Err c k emitted sent sendable =
+    let side = other c.args.side in
+    let e : IsEmission side emitted c.args.which c.in-Some.bytes.now =
+    IsEmission-found side c.args.sent.now emitted c.args.which c.in-Some.bytes.now sent sendable c.in-Some.ensures in
+    let inverse = c.in-Err.ensures.inverse e.out e.sendable.0 e.sendable.1 (c.as_slice.ensures ∙ e.encoded) in
+    let memory : c.in-Err.refusal ≡ InRefusal.NoMemory =
+    ⊎_elim (λ is. cc) (λ is. cc) inverse in
+    IfOk-from_err c.outcome_of_refusal.result _ (c.outcome_of_refusal.ensures memory)

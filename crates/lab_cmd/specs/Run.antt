@@ -1,0 +1,189 @@
+-- What a script does at the two ends: the steps that it makes, one for each line of the report.
+use Rattle.std.specs.Prelude.{◌≡◌, ℕ, ◌+◌, ◌-◌, ◌<◌, Option, Some, None, List, [], ◌∷◌, ◌++◌, length, slice_get, replicate}
+use Rattle.std.specs.Int.{w64, to_be_bytes}
+use Rattle.std.specs.List.{filter_map, fold}
+use Rattle.agent_message.specs.declared.item.Item.{Item}
+use Rattle.chan_io.specs.declared.side.Side.{Side}
+use Rattle.chan_io.specs.declared.side.Side.TheVariants.{Plugin, Agent}
+use Rattle.chan_io.specs.Sides.{other}
+use Rattle.channel_core.specs.declared.call.EndAnswer.{EndAnswer}
+use Rattle.channel_core.specs.declared.call.EndAnswer.TheVariants as EndAnswer
+use Rattle.channel_core.specs.declared.call.EndCall.{EndCall}
+use Rattle.channel_core.specs.declared.call.EndCall.TheVariants as EndCall
+use Rattle.channel_core.specs.declared.hearing.Heard.{Heard}
+use Rattle.channel_core.specs.declared.hearing.Heard.TheVariants as Heard
+use Rattle.channel_core.specs.declared.hearing.Incoming.TheVariants as Incoming
+use Rattle.channel_core.specs.declared.pulling.Outgoing.{Outgoing}
+use Rattle.channel_core.specs.declared.pulling.Pull.{Pull}
+use Rattle.channel_core.specs.declared.pulling.Pull.TheVariants as Pull
+use Rattle.channel_core.specs.declared.put.Put.{Put}
+use Rattle.channel_core.specs.declared.put.Put.TheVariants as Put
+use Rattle.channel_core.specs.declared.tick.Tick.{Tick}
+use Rattle.channel_core.specs.declared.tick.Tick.TheVariants as Tick
+use Rattle.channel_core.specs.Call.{Entry}
+use Rattle.channel_core.specs.Exchange.{incoming_of, opening}
+use Rattle.channel_core.specs.History.{emissions}
+use Rattle.channel_core.specs.Legal.{answer_to}
+use Rattle.channel_core.specs.Wire.{encoding}
+use Rattle.channel_core.specs.World.{Event, history_of}
+use Rattle.lab_script.specs.declared.command.Command.{Command}
+use Rattle.lab_script.specs.declared.command.Command.TheVariants as Command
+use Rattle.lab_script.specs.declared.outcome.Outcome.{Outcome}
+use Rattle.lab_script.specs.declared.outcome.Outcome.TheVariants as Outcome
+use Rattle.lab_script.specs.declared.verb.Verb.{Verb}
+use Rattle.lab_script.specs.declared.verb.Verb.TheVariants as Verb
+use Rattle.lab_script.specs.declared.which.Which.{Which}
+use Rattle.lab_script.specs.declared.which.Which.TheVariants as Which
+
+-- what was done at an end, and what came of it
+pub record Step : Type 0 where
+  -- the number of the script's line, from 1
+  pub line : ℕ
+  pub verb : Verb
+  pub side : Side
+  pub outcome : Outcome
+  -- the call with its answer, where one was made
+  pub event : Option Event
+
+-- before the first line both ends were connected, at the moment 0
+abbrev pub start : List Event
+start = opening Plugin 0 ∷ opening Agent 0 ∷ []
+
+-- the calls that were made, in order
+abbrev pub events_of : List Step → List Event
+events_of steps = filter_map (λ s. s.event) steps
+
+-- what happened at the two ends
+abbrev pub world_of : List Step → List Event
+world_of steps = start ++ events_of steps
+
+-- the MessageId of what a line puts in: eight zero bytes, and the number of the line
+abbrev pub id_of : ℕ → List ℕ
+id_of line = replicate 8 0 ++ to_be_bytes w64 line
+
+-- what a put reports
+abbrev pub outcome_of_put : Put → Outcome
+outcome_of_put (Put.Seq n) = Outcome.Seq n
+outcome_of_put (Put.Closed item) = Outcome.Closed
+outcome_of_put (Put.Spent item) = Outcome.Spent
+outcome_of_put (Put.Full item) = Outcome.Full
+outcome_of_put (Put.NoMemory item) = Outcome.Quiet
+
+-- what is reported of a message that was heard
+abbrev pub outcome_of_heard : Heard → Outcome
+outcome_of_heard (Heard.Released items) = Outcome.Released items
+outcome_of_heard Heard.Late = Outcome.Late
+outcome_of_heard Heard.Beyond = Outcome.Beyond
+outcome_of_heard (Heard.Acked n) = Outcome.Acked n
+outcome_of_heard (Heard.UnknownAck n) = Outcome.UnknownAck n
+outcome_of_heard Heard.Paused = Outcome.Paused
+outcome_of_heard Heard.Started = Outcome.Started
+outcome_of_heard Heard.Ended = Outcome.Ended
+outcome_of_heard Heard.AfterClose = Outcome.AfterClose
+outcome_of_heard (Heard.NoMemory incoming) = Outcome.Quiet
+
+-- what a pull reports: emission k of this end with its bytes, or that there is none
+abbrev pub outcome_of_pull : Side → ℕ → Pull → Outcome
+outcome_of_pull side k (Pull.Emit out) = Outcome.Emit k (encoding side out)
+outcome_of_pull side k Pull.Idle = Outcome.Idle
+outcome_of_pull side k Pull.NoMemory = Outcome.Quiet
+
+-- what a tick reports
+abbrev pub outcome_of_tick : Tick → Outcome
+outcome_of_tick Tick.Nothing = Outcome.Nothing
+outcome_of_tick (Tick.Due n) = Outcome.Due n
+outcome_of_tick (Tick.GaveUp n) = Outcome.GaveUp n
+
+-- what an answer reports at an end with k emissions. Want of memory is no answer by the rules.
+abbrev pub outcome_of : Side → ℕ → EndAnswer → Outcome
+outcome_of side k (EndAnswer.Put answer) = outcome_of_put answer
+outcome_of side k (EndAnswer.Heard answer) = outcome_of_heard answer
+outcome_of side k (EndAnswer.Tick answer) = outcome_of_tick answer
+outcome_of side k (EndAnswer.Pull answer) = outcome_of_pull side k answer
+outcome_of side k (EndAnswer.Look answer) = Outcome.Quiet
+outcome_of side k EndAnswer.Done = Outcome.Quiet
+
+-- a call at an end, which gets the answer that is due there
+abbrev pub called : ℕ → List Event → ℕ → Verb → Side → EndCall → Step
+called w world line verb side call =
+    let h = history_of side world in
+    let answer = answer_to w h call in
+    record {
+      line = line;
+      verb = verb;
+      side = side;
+      outcome = outcome_of side (length (emissions h)) answer;
+      event = Some (record { side = side; entry = record { call = call; answer = answer } });
+    }
+
+-- the emission that a line means
+abbrev pub emission_at : {X : Type 0} → List X → Which → Option X
+emission_at sent (Which.Number k) = slice_get sent k
+emission_at sent Which.Last = slice_get sent (length sent - 1)
+
+-- an emission is heard, if there is one
+abbrev pub heard_at : ℕ → List Event → ℕ → ℕ → Side → Option Outgoing → Step
+heard_at w world now line side None =
+    record { line = line; verb = Verb.Hear; side = side; outcome = Outcome.Absent; event = None }
+heard_at w world now line side (Some out) =
+    called w world line Verb.Hear side (EndCall.Heard now (incoming_of out))
+
+-- The steps of one line, by its number, at this moment, after this world. A line that sets the moment
+-- makes none; nor does a verb that is out of the grammar.
+abbrev pub steps_of : ℕ → List Event → ℕ → ℕ → Command → List Step
+steps_of w world now line (Command.At moment) = []
+steps_of w world now line (Command.Put side item) =
+    called w world line Verb.Put side (EndCall.Put item (id_of line) now) ∷ []
+steps_of w world now line (Command.Pull side) =
+    called w world line Verb.Pull side (EndCall.Pull now) ∷ []
+steps_of w world now line (Command.Tick side) =
+    called w world line Verb.Tick side (EndCall.Tick now) ∷ []
+steps_of w world now line (Command.Close side) =
+    called w world line Verb.Close side EndCall.Close ∷ []
+steps_of w world now line (Command.Hear side which) =
+    let sent = emissions (history_of (other side) world) in
+    heard_at w world now line side (emission_at sent which) ∷ []
+steps_of w world now line (Command.Hurt side which place) = []
+steps_of w world now line (Command.Lost side) =
+    called w world line Verb.Lost side EndCall.Lost ∷ []
+steps_of w world now line (Command.Open side) =
+    called w world line Verb.Open side (EndCall.Opened now) ∷ []
+steps_of w world now line (Command.Pause side) =
+    called w world line Verb.Pause side (EndCall.Heard now Incoming.Pause) ∷ []
+steps_of w world now line (Command.Start side) =
+    called w world line Verb.Start side (EndCall.Heard now Incoming.Start) ∷ []
+steps_of w world now line (Command.End side) =
+    called w world line Verb.End side (EndCall.Heard now (Incoming.Closing [])) ∷ []
+steps_of w world now line Command.Settle = []
+
+-- the moment after a line
+abbrev pub moment_after : ℕ → Command → ℕ
+moment_after now (Command.At moment) = moment
+moment_after now command = now
+
+-- how far a run has come
+pub record Progress : Type 0 where
+  pub steps : List Step
+  -- the moment in milliseconds
+  pub now : ℕ
+  -- the number of the next line
+  pub line : ℕ
+
+-- one line more
+abbrev pub progress_after : ℕ → Progress → Command → Progress
+progress_after w before command =
+    record {
+      steps =
+          before.steps
+          ++ steps_of w (world_of before.steps) before.now before.line command;
+      now = moment_after before.now command;
+      line = before.line + 1;
+    }
+
+-- how far a run has come after these lines, with ends of the window w
+unfoldable pub progress : ℕ → List Command → Progress
+progress w commands = fold (progress_after w) (record { steps = []; now = 0; line = 1 }) commands
+
+-- the steps of a script
+abbrev pub run : ℕ → List Command → List Step
+run w commands = (progress w commands).steps

@@ -1,0 +1,121 @@
+//! A run of a script.
+
+ghost use Rattle.std.specs.Prelude.{◌≡◌, ◌≤◌, ◌++◌, ℕ, List, Option, All, OnOk, OnErr, Err};
+ghost use Rattle.chan_io.specs.Faults.{Rises};
+ghost use Rattle.chan_io.specs.Sinks.{Output, Writes, WritesPart};
+ghost use Rattle.channel_core.specs.World.{Event};
+ghost use Rattle.lab_cmd.specs.Ends.{IsPair, side_of};
+ghost use Rattle.lab_cmd.specs.Printing.{IsPrinted};
+ghost use Rattle.lab_cmd.specs.Report.{report};
+ghost use Rattle.lab_cmd.specs.Run.{events_of, moment_after, run, steps_of};
+ghost use Rattle.lab_cmd.specs.Script.{IsLabCommand};
+
+use crate::pair::Pair;
+use crate::printer::Printer;
+use crate::stop::Stop;
+use chan_io::{Side, Sink};
+use lab_script::Command;
+use std::alloc::Global;
+
+/// Runs a script on two new ends with this window, and writes its report.
+pub fn run<K: Sink>(
+    alloc: Global,
+    window: u64,
+    commands: Vec<Command>,
+    sink: &mut K,
+) -> Result<(), Stop>
+    requires low { 1 ≤ window }
+    requires high { window ≤ 10000 }
+    requires in_range { All IsLabCommand commands.items }
+    ensures ok { let text = report (run window commands.items) in
+        OnOk result (Writes text (K.output sink.old) (K.output sink.new)) }
+    ensures err { let text = report (run window commands.items) in
+        OnErr result (WritesPart text (K.output sink.old) (K.output sink.new)) }
+    ensures failed { result ≡ Err Stop.Write → Rises (K.faults sink.old) (K.faults sink.new) }
+    ensures counted { K.faults sink.old ≤ K.faults sink.new }
+{
+    let mut pair = Pair::new(alloc, window)?;
+    let mut printer = Printer::new(alloc);
+    let mut now = 0;
+    let mut line = 0;
+    for command in commands {
+        line += 1;
+        follow(
+            alloc,
+            &mut pair,
+            &mut now,
+            command,
+            line,
+            &mut printer,
+            sink,
+        )?;
+    }
+    printer.flush(sink)
+}
+
+/// Follows one line.
+fn follow<K: Sink>(
+    alloc: Global,
+    pair: &mut Pair,
+    now: &mut u64,
+    command: Command,
+    line: u64,
+    printer: &mut Printer,
+    sink: &mut K,
+) -> Result<(), Stop>
+    requires { IsLabCommand command }
+    ensures moment { OnOk result (now.new ≡ moment_after now.old command) }
+    ensures made { (w : ℕ) (world : List Event) → IsPair w world pair.old
+        → let steps = steps_of w world now.old line command in
+        OnOk result (IsPair w (world ++ events_of steps) pair.new) }
+    ensures ok { (w : ℕ) (world : List Event) (before : Option Output) (done : List ℕ)
+        → IsPair w world pair.old
+        → IsPrinted done printer.old.text.items before (K.output sink.old)
+        → let more = done ++ report (steps_of w world now.old line command) in
+        OnOk result (IsPrinted more printer.new.text.items before (K.output sink.new)) }
+    ensures err { (w : ℕ) (world : List Event) (before : Option Output) (done : List ℕ)
+        → IsPair w world pair.old
+        → IsPrinted done printer.old.text.items before (K.output sink.old)
+        → let more = done ++ report (steps_of w world now.old line command) in
+        OnErr result (WritesPart more before (K.output sink.new)) }
+    ensures failed { result ≡ Err Stop.Write → Rises (K.faults sink.old) (K.faults sink.new) }
+    ensures counted { K.faults sink.old ≤ K.faults sink.new }
+{
+    let moment = *now;
+    match side_of(&command) {
+        Some(side) => pair.step(alloc, side, command, line, moment, printer, sink),
+        None => {
+            *now = moment_after(moment, &command);
+            Ok(())
+        }
+    }
+}
+
+/// The one end at which a command is done.
+fn side_of(command: &Command) -> Option<Side>
+    ensures { result ≡ side_of command.now }
+{
+    match command {
+        Command::Put { side, .. }
+        | Command::Pull { side }
+        | Command::Tick { side }
+        | Command::Close { side }
+        | Command::Hear { side, .. }
+        | Command::Lost { side }
+        | Command::Open { side }
+        | Command::Pause { side }
+        | Command::Start { side }
+        | Command::End { side } => Some(*side),
+        Command::At { .. } | Command::Hurt { .. } | Command::Settle => None,
+    }
+}
+
+/// The moment after a line.
+fn moment_after(now: u64, command: &Command) -> u64
+    ensures { result ≡ moment_after now command.now }
+{
+    match command {
+        Command::At { moment } => *moment,
+        _ => now,
+    }
+}

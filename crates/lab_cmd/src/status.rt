@@ -1,0 +1,65 @@
+//! How a run of the lab ended.
+
+ghost use Rattle.std.specs.Prelude.{◌≡◌, Some};
+
+use std::fmt;
+
+/// How a run of the lab ended.
+#[derive(Clone, Copy, Debug, PartialEq, Eq)]
+pub enum Status {
+    /// The input was read to its end, and its report was written.
+    Ok,
+    /// There was no memory.
+    NoMemory,
+    /// The words are no command line: the index of the first word that fits none, or the number of
+    /// words where they end too early.
+    Usage(u64),
+    /// The number of the first line that is out of the grammar, from 1.
+    Script(u64),
+    /// A read of the input failed.
+    ReadFault,
+    /// A write of the report failed.
+    WriteFault,
+    /// The input is longer than 67,108,864 bytes.
+    TooLong,
+}
+
+impl Status {
+    ghost use Rattle.lab_cmd.specs.Statuses.{number_of};
+
+    /// The exit status of the program.
+    pub fn number(self) -> u8
+        ensures { result ≡ number_of self }
+    {
+        match self {
+            Status::Ok => 0,
+            Status::NoMemory => 1,
+            Status::Usage(_) => 2,
+            Status::Script(_) => 3,
+            Status::ReadFault => 4,
+            Status::WriteFault => 5,
+            Status::TooLong => 6,
+        }
+    }
+}
+
+impl fmt::Display for Status {
+    ghost use Rattle.std.specs.Prelude.{Some};
+    ghost use Rattle.lab_cmd.specs.Statuses.{status_text};
+
+    ghost output = { λ status. Some (status_text status) };
+
+    fn fmt<W: fmt::Write>(&self, f: &mut fmt::Formatter<W>) -> fmt::Result {
+        let number = self.number();
+        write!(f, "lab: status {number} ")?;
+        match self {
+            Status::Ok => write!(f, "Ok"),
+            Status::NoMemory => write!(f, "NoMemory"),
+            Status::Usage(k) => write!(f, "Usage {k}"),
+            Status::Script(line) => write!(f, "Script {line}"),
+            Status::ReadFault => write!(f, "ReadFault"),
+            Status::WriteFault => write!(f, "WriteFault"),
+            Status::TooLong => write!(f, "TooLong"),
+        }
+    }
+}

@@ -1,0 +1,6 @@
+pub mod Appending
+pub mod Command
+pub mod Lines
+pub mod Report
+pub mod Verb
+pub mod Words

@@ -1,0 +1,50 @@
+-- The lines of a report.
+use Rattle.std.specs.Prelude.{ℕ, List, [], ◌∷◌, ◌++◌, codes, length, map, decimal, Option, Some, None}
+use Rattle.std.specs.List.{join_with_byte}
+use Rattle.agent_message.specs.declared.item.Item.{Item}
+use Rattle.chan_io.specs.declared.side.Side.{Side}
+use Rattle.lab_script.specs.declared.outcome.Outcome.{Outcome}
+use Rattle.lab_script.specs.declared.outcome.Outcome.TheVariants.{Seq, Full, Closed, Spent, Emit, Idle, Released, Late, Beyond, Acked, UnknownAck, Paused, Started, Ended, AfterClose, Absent, Refused, Passed, Nothing, Due, GaveUp, Quiet}
+use Rattle.lab_script.specs.declared.verb.Verb.{Verb}
+use Rattle.lab_script.specs.Verb.{verb_text}
+use Rattle.lab_script.specs.Words.{side_text, hex_text}
+
+-- an item: its type, a colon and its payload
+abbrev pub item_text : Item → List ℕ
+item_text item = decimal item.ptype ++ codes ":" ++ hex_text item.payload
+
+-- the words of an outcome
+abbrev pub outcome_words : Outcome → List (List ℕ)
+outcome_words (Seq n) = codes "seq" ∷ decimal n ∷ []
+outcome_words Full = codes "full" ∷ []
+outcome_words Closed = codes "closed" ∷ []
+outcome_words Spent = codes "spent" ∷ []
+outcome_words (Emit n encoding) = codes "emit" ∷ decimal n ∷ hex_text encoding ∷ []
+outcome_words Idle = codes "idle" ∷ []
+outcome_words (Released items) = codes "released" ∷ decimal (length items) ∷ map item_text items
+outcome_words Late = codes "late" ∷ []
+outcome_words Beyond = codes "beyond" ∷ []
+outcome_words (Acked n) = codes "acked" ∷ decimal n ∷ []
+outcome_words (UnknownAck n) = codes "unknown-ack" ∷ decimal n ∷ []
+outcome_words Paused = codes "paused" ∷ []
+outcome_words Started = codes "started" ∷ []
+outcome_words Ended = codes "ended" ∷ []
+outcome_words AfterClose = codes "after-close" ∷ []
+outcome_words Absent = codes "absent" ∷ []
+outcome_words (Refused n) = codes "refused" ∷ decimal n ∷ []
+outcome_words Passed = codes "passed" ∷ []
+outcome_words Nothing = codes "nothing" ∷ []
+outcome_words (Due n) = codes "due" ∷ decimal n ∷ []
+outcome_words (GaveUp n) = codes "gave-up" ∷ decimal n ∷ []
+outcome_words Quiet = []
+
+-- the letter of the end that the line names, where it names one
+abbrev pub side_words : Option Side → List (List ℕ)
+side_words None = []
+side_words (Some side) = side_text side ∷ []
+
+-- a line of the report: its words, with one space between two of them, and a line feed
+abbrev pub report_line : ℕ → Verb → Option Side → Outcome → List ℕ
+report_line number verb side outcome =
+    join_with_byte 32 (decimal number ∷ verb_text verb ∷ (side_words side ++ outcome_words outcome))
+    ++ 10 ∷ []
