@@ -1,15 +1,16 @@
 -- Items by number.
-use Rattle.std.proofs.Common.{◌≡◌, ℕ, ◌+◌, ◌-◌, ◌<◌, ◌≤◌, zero, suc, Bool, true, false, cond, Option, Some, None, is_some, List, [], ◌∷◌, ◌++◌, ⊎_elim, refl, sym, ap, subst, ◌∙◌, arith, length, eqb, ltb, append_assoc}
+use Rattle.std.proofs.Common.{◌≡◌, ◌≢◌, ℕ, ◌+◌, ◌-◌, ◌<◌, ◌≤◌, zero, suc, Bool, true, false, cond, Option, Some, None, is_some, List, [], ◌∷◌, ◌++◌, ⊎_elim, refl, sym, ap, subst, ◌∙◌, arith, length, eqb, ltb, append_assoc}
 use Rattle.std.specs.Option.{IsSome}
 use Rattle.std.specs.Bool.{IsTrue}
-use Rattle.std.specs.List.{filter_map, cons_option, range_with_len, AllByRecursion}
+use Rattle.std.specs.List.{filter_map, cons_option, range_with_len, All, AllByRecursion, AllPairs}
 use Rattle.std.specs.List.Sorted.{IsStrictlySortedBy}
 use Rattle.std.specs.Map.{lookup, keys_of}
 use Rattle.std.specs.Ordering.{nat_cmp}
 use Rattle.std.specs.BTreeMap.{is_at}
 use Rattle.std.specs.declared.cmp.Ordering.TheVariants.{Less, Equal, Greater}
 use Rattle.std.proofs.lemmas.Bool.{cases_Bool, cases_eq, cases_lt, eq-eqb, ne_eqb, lt-ltb, le-ltb, ltb-true, both_ways, or_from}
-use Rattle.std.proofs.lemmas.List.Elements.{filter_map-append}
+use Rattle.std.proofs.lemmas.List.Elements.{All-cons, All-nil, filter_map-append}
+use Rattle.std.proofs.lemmas.List.Kept.{AllPairs-cons}
 use Rattle.std.proofs.lemmas.Map.Keys.{sorted_head, sorted_tail}
 use Rattle.agent_message.specs.declared.item.Item.{Item}
 use Rattle.receive_window.specs.declared.take.Take.{Take}
@@ -180,6 +181,19 @@ Releases-next_at w e n to item items early new here above grows list there missi
     (λ k low. there k (omega arith)) missing (λ k beyond. rest k (λ low. beyond (omega arith)))
     (λ k low. gone k (omega arith)))
 
+-- equal or greater isn't less
+neither : (b : Bool) → cond b Equal Greater ≡ Less → ⊥
+neither true is = cc
+neither false is = cc
+
+-- what compares as less is less
+less_is : (a b : ℕ) → nat_cmp a b ≡ Less → a < b
+less_is a b is = ⊎_elim
+    (λ (below : ltb a b ≡ true). ltb-true a b below)
+    (λ (above : ltb a b ≡ false). let other : cond (eqb a b) Equal Greater
+    ≡ Less = rw above at is in absurd (neither (eqb a b) other))
+    (cases_Bool (ltb a b))
+
 -- numbers in order between two bounds are fewer than those between
 pub length-between : (ks : List ℕ) (low high : ℕ)
     → IsStrictlySortedBy nat_cmp ks
@@ -191,23 +205,31 @@ length-between (k ∷ ks) low high ordered all =
     (later ks (sorted_head nat_cmp k ks ordered) all.1) in
     let first = all.0 in omega (arith, first.0, first.1, rest)
   where
-    neither : (b : Bool) → cond b Equal Greater ≡ Less → ⊥
-    neither true is = cc
-    neither false is = cc
-
-    less_is : (a b : ℕ) → nat_cmp a b ≡ Less → a < b
-    less_is a b is = ⊎_elim
-        (λ (below : ltb a b ≡ true). ltb-true a b below)
-        (λ (above : ltb a b ≡ false). let other : cond (eqb a b) Equal Greater
-        ≡ Less = rw above at is in absurd (neither (eqb a b) other))
-        (cases_Bool (ltb a b))
-
     later : (js : List ℕ)
         → AllByRecursion (λ j. nat_cmp k j ≡ Less) js
         → AllByRecursion (λ j. (low < j) × (j < high)) js
         → AllByRecursion (λ j. (k < j) × (j < high)) js
     later [] less all = tt
     later (j ∷ js) less all = ((less_is k j less.0, all.0.1), later js less.1 all.1)
+
+-- items in the order of their numbers have different numbers
+pub numbers_differ : (es : List (ℕ × Item))
+    → IsStrictlySortedBy nat_cmp (keys_of es)
+    → AllPairs (λ (p q : ℕ × Item). p.0 ≢ q.0) es
+numbers_differ [] ordered = λ i j d below inside. absurd (omega arith)
+numbers_differ (e ∷ es) ordered =
+    AllPairs-cons (λ (p q : ℕ × Item). p.0 ≢ q.0) e es
+    (later es (sorted_head nat_cmp e.0 (keys_of es) ordered))
+    (numbers_differ es (sorted_tail nat_cmp e.0 (keys_of es) ordered))
+  where
+    later : (fs : List (ℕ × Item))
+        → AllByRecursion (λ k. nat_cmp e.0 k ≡ Less) (keys_of fs)
+        → All (λ (q : ℕ × Item). e.0 ≢ q.0) fs
+    later [] less = All-nil (λ (q : ℕ × Item). e.0 ≢ q.0)
+    later (f ∷ fs) less =
+        All-cons (λ (q : ℕ × Item). e.0 ≢ q.0) f fs
+        (λ same. let below = less_is e.0 f.0 less.0 in omega arith)
+        (later fs less.1)
 
 -- each key has an item
 keys-present : (es front : List (ℕ × Item)) (P : ℕ → Type 0)

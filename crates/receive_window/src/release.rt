@@ -18,7 +18,8 @@ pub fn release(early: &mut BTreeMap<u64, Item>, from: u64, items: &mut Vec<Item>
     requires ordered { IsOrdered nat_cmp early.old }
     ensures within { result ≤ 2 ^ 63 }
     ensures from { from ≤ result }
-    ensures items { items.new.items ≡ items.old.items ++ items_in_order early.old.entries from result }
+    ensures items { items.new.items
+        ≡ items.old.items ++ items_in_order early.old.entries from result }
     ensures there { (n : ℕ) → from ≤ n → n < result → IsSome (item_with early.old.entries n) }
     ensures missing { item_with early.old.entries result ≡ None }
     ensures rest { (n : ℕ)

@@ -1,6 +1,6 @@
 //! The receive window: stream messages come in any order and leave by number, each once.
 
-ghost use Rattle.std.specs.Prelude.{◌≡◌, ◌↔◌, ◌+◌, ◌-◌, ◌^◌, ◌<◌, ◌≤◌, ◌∷◌, IfOk, IsTrue, length};
+ghost use Rattle.std.specs.Prelude.{◌≡◌, ◌≢◌, ◌↔◌, ◌+◌, ◌-◌, ◌^◌, ◌<◌, ◌≤◌, ◌∷◌, AllPairs, IfOk, IsTrue, length};
 ghost use Rattle.receive_window.specs.Window.{empty_window, is_taken, Releases, IfReleased, IfRefused};
 
 use crate::release::release;
@@ -89,6 +89,7 @@ impl Window {
     /// How many items wait for an earlier one: fewer than the window has.
     pub fn held(&self) -> u64
         ensures count { result ≡ length self.now.early }
+        ensures different { AllPairs (λ p q. p.0 ≢ q.0) self.now.early }
         ensures few { result ≤ self.now.window - 1 }
     {
         self.early.len() as u64

@@ -16,7 +16,7 @@ pub record Pending : Type 0 where
   pub seq : ℕ
   -- its id
   pub id : List ℕ
-  -- the moment of its put
+  -- CreatedDate: the moment of its put, at least 1
   pub date : ℕ
   -- its payload and type
   pub item : Item

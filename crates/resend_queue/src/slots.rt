@@ -13,7 +13,8 @@ use std::collections::BTreeMap;
 
 /// The lowest message that may be transmitted, with its number.
 pub fn first_eligible(slots: &BTreeMap<u64, Slot>) -> Option<(u64, &Slot)>
-    ensures { option_map (λ e. pending_of (e.0, e.1.now)) result ≡ find is_eligible (messages slots.now) }
+    ensures { option_map (λ e. pending_of (e.0, e.1.now)) result
+        ≡ find is_eligible (messages slots.now) }
 {
     for (seq, slot) in slots {
         if slot.is_eligible() {

@@ -1,8 +1,12 @@
 use Rattle.std.proofs.Common.{◌+◌, ◌<◌, arith}
 use Rattle.std.specs.Map.{keys_of}
 use Rattle.std.proofs.lemmas.Map.Entries.{length-keys_of}
-use Rattle.receive_window.proofs.ItemLemmas.{length-between, keys-all}
+use Rattle.receive_window.proofs.ItemLemmas.{length-between, keys-all, numbers_differ}
 use Rattle.receive_window.proofs.window.Window.held.Goals as goal
+
+pub returns-clause-different : goal.returns-clause-different
+returns-clause-different c =
+    rw (← c.self.view_is) (numbers_differ c.self.inside.early.entries c.self.invariant.ordered)
 
 pub returns-clause-few : goal.returns-clause-few
 returns-clause-few c =
