@@ -1,18 +1,16 @@
 -- The unacknowledged messages, as a list made from what is read off a history.
-use Rattle.std.proofs.Common.{◌≡◌, ◌≢◌, ℕ, ◌+◌, ◌-◌, ◌<◌, ◌≤◌, zero, suc, Bool, true, false, not, cond, ◌||◌, ◌&&◌, Option, Some, None, is_some, List, [], ◌∷◌, ◌++◌, ◌⊎◌, inl, inr, ⊎_elim, refl, sym, ap, subst, ◌∙◌, arith, length, map, filter, find, eqb, ltb, slice_get, length-append}
-use Rattle.std.specs.List.{filter_map, cons_option, range_with_len, fold}
-use Rattle.std.specs.Option.{option_map, option_and_then}
+use Rattle.std.proofs.Common.{◌≡◌, ◌≢◌, ℕ, ◌+◌, ◌<◌, ◌≤◌, zero, suc, Bool, true, false, not, cond, Option, Some, None, List, [], ◌∷◌, ◌++◌, ⊎_elim, refl, sym, ap, ◌∙◌, arith, length, map, filter, eqb, slice_get}
+use Rattle.std.specs.List.{filter_map, cons_option, range_with_len}
+use Rattle.std.specs.Option.{option_map}
 use Rattle.std.proofs.lemmas.Grind.{fold-append}
-use Rattle.std.proofs.lemmas.Bool.{cases_Bool, cases_eq, cases_lt, eq-eqb, ne_eqb, eqb-true, eqb-false, or_left, or_right}
-use Rattle.std.proofs.lemmas.List.{append-nil, length_push}
+use Rattle.std.proofs.lemmas.Bool.{cases_Bool, cases_eq, eq-eqb, ne_eqb}
+use Rattle.std.proofs.lemmas.List.{length_push}
 use Rattle.std.proofs.lemmas.List.Elements.{filter_map-append}
-use Rattle.std.proofs.lemmas.Option.{slice_get_within, slice_get-get_or}
-use Rattle.agent_message.specs.declared.item.Item.{Item}
-use Rattle.resend_queue.specs.Queue.{Pending, changed_at, first_number, marked, new_message, transmitted, unsent}
+use Rattle.resend_queue.specs.Queue.{Pending, changed_at, marked, new_message, transmitted, unsent}
 use Rattle.channel_core.specs.History.{Message}
-use Rattle.channel_core.specs.Numbers.{has_number, least_absent, least_below, or_else}
+use Rattle.channel_core.specs.Numbers.{has_number}
 use Rattle.channel_core.specs.Resending.{last_moment}
-use Rattle.channel_core.proofs.NumberLemmas.{has_number-kept, has_number-last, has_number-other, has_number-without, least_absent-is, least_below-is, least_below-some}
+use Rattle.channel_core.proofs.NumberLemmas.{has_number-kept, has_number-last, has_number-other, has_number-without}
 use Rattle.channel_core.proofs.ItemLemmas.{filter_map-agree, range_with_len-add}
 
 -- what a history tells of the messages that were put in

@@ -15,13 +15,13 @@ use Rattle.channel_core.specs.Exchange.{IsExchange, IsPass, incoming_of, opening
 use Rattle.channel_core.specs.History.{closes, is_closed}
 use Rattle.channel_core.specs.Laws.{ExchangeIsPossible}
 use Rattle.channel_core.specs.Legal.{answer_to_heard, answer_to_incoming, answer_to_pull}
-use Rattle.channel_core.specs.World.{Event, IsLegalWorld, event_of, history_of}
+use Rattle.channel_core.specs.World.{Event, IsLegalWorld, history_of}
 use Rattle.channel_core.proofs.ExchangeLemmas.{openings, openings_parts}
 use Rattle.channel_core.proofs.HistoryLemmas.{is_closed-push}
 use Rattle.channel_core.proofs.LegalLemmas.{ack_cases, pull_cases, stream_cases}
 use Rattle.channel_core.proofs.PassLemmas.{Unclosed}
 use Rattle.channel_core.proofs.ShortLemmas.{backlog, backlog_falls, backlog_within}
-use Rattle.channel_core.proofs.WorldLemmas.{append_two-holds, IsLegalWorld-push, cases_side, history_of-here, history_of-there}
+use Rattle.channel_core.proofs.WorldLemmas.{event_of, append_two-holds, IsLegalWorld-push, cases_side, history_of-here, history_of-there}
 
 -- an event that closes nothing leaves both ends as they were
 Unclosed-push : (world : List Event) (x : Event)

@@ -1,30 +1,23 @@
 -- What a legal history tells of the messages that were put in.
-use Rattle.std.proofs.Common.{◌≡◌, ◌≢◌, ℕ, ◌+◌, ◌-◌, ◌<◌, ◌≤◌, Bool, true, false, not, cond, ◌||◌, ◌&&◌, max, Option, Some, None, List, [], ◌∷◌, ◌++◌, ◌⊎◌, inl, inr, ⊎_elim, refl, sym, ap, subst, ◌∙◌, arith, length, filter, eqb, leb, ltb, slice_get}
-use Rattle.std.specs.List.{cons_option, count_by, filter_map}
-use Rattle.std.proofs.lemmas.Bool.{and_parts, both_ways, cases_Bool, cases_eq, cases_lt, cond_both, eq-eqb, eqb-true, false_from_ne_true, ne_eqb, not-false, or_cases, or_left, or_right}
+use Rattle.std.proofs.Common.{◌≡◌, ◌≢◌, ℕ, ◌+◌, ◌<◌, ◌≤◌, true, false, not, cond, ◌||◌, max, Some, List, [], ◌∷◌, ◌++◌, ◌⊎◌, inl, inr, ⊎_elim, refl, sym, ap, subst, ◌∙◌, arith, length, filter, eqb, leb}
+use Rattle.std.specs.List.{cons_option, filter_map}
+use Rattle.std.proofs.lemmas.Bool.{and_parts, both_ways, cases_eq, cond_both, eqb-true, false_from_ne_true, not-false, or_cases, or_left, or_right}
 use Rattle.std.proofs.lemmas.List.{append-nil, length_push}
 use Rattle.std.proofs.lemmas.List.Elements.{filter_map-append}
-use Rattle.std.proofs.lemmas.List.Sums.{sum_by-append, sum_by-cons}
-use Rattle.agent_message.specs.declared.item.Item.{Item}
+use Rattle.std.proofs.lemmas.List.Sums.{sum_by-append}
 use Rattle.channel_core.specs.declared.call.EndAnswer.{EndAnswer}
-use Rattle.channel_core.specs.declared.call.EndAnswer.TheVariants as EndAnswer
 use Rattle.channel_core.specs.declared.call.EndCall.{EndCall}
-use Rattle.channel_core.specs.declared.call.EndCall.TheVariants as EndCall
-use Rattle.channel_core.specs.declared.hearing.Heard.TheVariants as Heard
-use Rattle.channel_core.specs.declared.hearing.Incoming.TheVariants as Incoming
 use Rattle.channel_core.specs.declared.pulling.Outgoing.TheVariants as Outgoing
 use Rattle.channel_core.specs.declared.pulling.Pull.TheVariants as Pull
-use Rattle.channel_core.specs.declared.put.Put.TheVariants as Put
 use Rattle.channel_core.specs.declared.tick.Tick.{Tick}
-use Rattle.channel_core.specs.declared.tick.Tick.TheVariants as Tick
 use Rattle.channel_core.specs.Call.{Entry}
-use Rattle.channel_core.specs.History.{Message, acked_numbers, emissions, emitted_numbers, is_closed, is_up, lowest_unacked, message_emitted, message_put, number_acked, put_messages, stream_number}
-use Rattle.channel_core.specs.Legal.{IsAnswered, IsLegal, IsNoMemory, answer_to_tick, is_expired}
+use Rattle.channel_core.specs.History.{acked_numbers, emissions, emitted_numbers, is_closed, is_up, lowest_unacked, message_emitted, message_put, number_acked, put_messages, stream_number}
+use Rattle.channel_core.specs.Legal.{IsAnswered, IsLegal, answer_to_tick, is_expired}
 use Rattle.channel_core.specs.Numbers.{has_number, least_absent}
 use Rattle.channel_core.specs.Resending.{due_count, is_due, marked_after, marked_due, number_transmitted, sent_after, sent_since_opened, transmissions}
 use Rattle.channel_core.proofs.HistoryLemmas.{acked_numbers-push, by_pushes, emissions-push, marked_due-push, put_messages-push, sent_since_opened-push, transmissions-push}
-use Rattle.channel_core.proofs.LegalLemmas.{Cases, IsLegal-pushed, by_cases}
-use Rattle.channel_core.proofs.NumberLemmas.{has_number-append, has_number-kept, has_number-more, has_number-pushed, has_number-without, least_absent-grows, least_absent-is, least_absent-le}
+use Rattle.channel_core.proofs.LegalLemmas.{IsLegal-pushed, by_cases}
+use Rattle.channel_core.proofs.NumberLemmas.{has_number-append, has_number-kept, has_number-more, has_number-pushed, has_number-without, least_absent-grows, least_absent-le}
 use Rattle.channel_core.proofs.PendingLemmas.{Sending}
 
 -- the numbers that this answer gives out

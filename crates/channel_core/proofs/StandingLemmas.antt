@@ -1,18 +1,18 @@
 -- What an end keeps, one entry on.
-use Rattle.std.proofs.Common.{◌≡◌, ◌≢◌, ℕ, ◌+◌, ◌-◌, ◌<◌, ◌≤◌, Bool, true, false, not, cond, ◌||◌, ◌&&◌, Option, Some, None, List, [], ◌∷◌, ◌++◌, ◌⊎◌, inl, inr, ⊎_elim, refl, sym, ap, subst, ◌∙◌, arith, length, eqb, ltb, slice_get}
-use Rattle.std.specs.List.{cons_option, count_by, filter_map}
+use Rattle.std.proofs.Common.{◌≡◌, ℕ, ◌+◌, Bool, true, false, cond, ◌||◌, Option, None, List, [], ◌∷◌, ◌++◌, refl, sym, ap, ◌∙◌, arith, length, ltb}
+use Rattle.std.specs.List.{cons_option}
 use Rattle.std.proofs.lemmas.List.{append-nil}
 use Rattle.agent_message.specs.declared.item.Item.{Item}
 use Rattle.resend_queue.specs.Queue.{Pending, QueueState, empty_queue}
-use Rattle.resend_queue.specs.RoundTrips.{RoundTrip, after_samples, no_sample}
+use Rattle.resend_queue.specs.RoundTrips.{after_samples, no_sample}
 use Rattle.receive_window.specs.Window.{WindowState, empty_window, item_with}
 use Rattle.channel_core.specs.declared.call.EndAnswer.{EndAnswer}
 use Rattle.channel_core.specs.declared.call.EndCall.{EndCall}
 use Rattle.channel_core.specs.Call.{Entry, with_earlier}
-use Rattle.channel_core.specs.History.{Message, acked_numbers, closes, is_closed, is_paused, is_up, item_taken, lowest_unacked, next_in_order, number_acked, owed_acks, owed_after, paused_after, put_messages, taken_items, up_after}
+use Rattle.channel_core.specs.History.{Message, acked_numbers, closes, is_closed, is_paused, is_up, item_taken, lowest_unacked, number_acked, owed_acks, owed_after, paused_after, put_messages, taken_items, up_after}
 use Rattle.channel_core.specs.Legal.{IsAnswered, IsLegal}
-use Rattle.channel_core.specs.Numbers.{has_number, item_at, least_absent, numbers_of}
-use Rattle.channel_core.specs.Resending.{due_count, is_due, round_trip, round_trip_samples, sample_of}
+use Rattle.channel_core.specs.Numbers.{item_at, least_absent, numbers_of}
+use Rattle.channel_core.specs.Resending.{due_count, is_due, round_trip_samples, sample_of}
 use Rattle.channel_core.specs.Stands.{EndState, Stands, queue_after}
 use Rattle.channel_core.proofs.HistoryLemmas.{acked_numbers-push, is_closed-push, is_paused-push, is_up-push, owed_acks-push, round_trip_samples-push, taken_items-push}
 use Rattle.channel_core.proofs.LegalLemmas.{IsLegal-push}

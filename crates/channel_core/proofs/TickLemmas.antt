@@ -1,51 +1,24 @@
 -- Ticks and looks: from what an end keeps to the entry that follows.
-use Rattle.std.proofs.Common.{◌≡◌, ◌≢◌, ℕ, ◌+◌, ◌-◌, ◌^◌, ◌<◌, ◌≤◌, max, Bool, true, false, not, cond, ◌||◌, ◌&&◌, Option, Some, None, List, [], ◌∷◌, ◌++◌, ◌⊎◌, inl, inr, ⊎_elim, refl, sym, ap, subst, ◌∙◌, arith, length, map, filter, find, drop, eqb, leb, ltb, slice_get}
-use Rattle.std.specs.List.{cons_option, filter_map}
-use Rattle.std.specs.Option.{option_and_then, option_map}
-use Rattle.std.proofs.lemmas.Grind.{fold-append}
-use Rattle.std.proofs.lemmas.Bool.{and_left, and_parts, and_right, both_ways, cases_Bool, cases_eq, cases_lt, cond_both, eq-eqb, eqb-true, false_from_ne_true, le-ltb, lt-ltb, ltb-true, ne_eqb, not-false, not-true, not_from_false, not_from_true, or_left, or_right, or_from}
-use Rattle.std.proofs.lemmas.List.{append-nil, length_push}
-use Rattle.std.proofs.lemmas.Option.{slice_get_within}
-use Rattle.agent_message.specs.declared.item.Item.{Item}
-use Rattle.resend_queue.specs.declared.kept.Kept.{Kept}
-use Rattle.resend_queue.specs.declared.kept.Kept.TheVariants as Kept
+use Rattle.std.proofs.Common.{◌≡◌, ℕ, ◌+◌, ◌-◌, ◌<◌, ◌≤◌, Bool, true, false, not, cond, ◌||◌, ◌&&◌, Some, None, List, [], ◌∷◌, ◌++◌, inl, ⊎_elim, refl, sym, ap, ◌∙◌, arith, length, leb, ltb}
+use Rattle.std.proofs.lemmas.Bool.{cases_lt, eq-eqb, ne_eqb}
 use Rattle.resend_queue.specs.declared.mark.Mark.{Mark}
-use Rattle.resend_queue.specs.declared.mark.Mark.TheVariants as Mark
-use Rattle.resend_queue.specs.declared.out.Out.{Out}
-use Rattle.resend_queue.specs.declared.out.Out.TheVariants as Out
-use Rattle.resend_queue.specs.declared.sent.Sent.{Sent}
-use Rattle.resend_queue.specs.Queue.{Pending, QueueState, after_ack, after_mark, after_out, after_put, changed_at, first_eligible, first_number, is_eligible as may_go, is_overdue, is_past, lowest, mark_answer, mark_answer_of, marked, moment_of, new_message, out_of, put_answer, reopened, transmitted, unsent, without_number}
-use Rattle.resend_queue.specs.RoundTrips.{RoundTrip, after_sample, after_samples, no_sample}
+use Rattle.resend_queue.specs.Queue.{Pending, QueueState, after_mark, is_overdue, is_past, lowest, mark_answer}
+use Rattle.resend_queue.specs.RoundTrips.{RoundTrip}
 use Rattle.channel_core.specs.declared.call.EndAnswer.{EndAnswer}
-use Rattle.channel_core.specs.declared.call.EndAnswer.TheVariants as EndAnswer
 use Rattle.channel_core.specs.declared.call.EndCall.{EndCall}
-use Rattle.channel_core.specs.declared.call.EndCall.TheVariants as EndCall
-use Rattle.channel_core.specs.declared.hearing.Heard.{Heard}
-use Rattle.channel_core.specs.declared.hearing.Heard.TheVariants as Heard
-use Rattle.channel_core.specs.declared.hearing.Incoming.{Incoming}
-use Rattle.channel_core.specs.declared.hearing.Incoming.TheVariants as Incoming
 use Rattle.channel_core.specs.declared.look.Look.{Look}
-use Rattle.channel_core.specs.declared.pulling.Outgoing.{Outgoing}
-use Rattle.channel_core.specs.declared.pulling.Outgoing.TheVariants as Outgoing
-use Rattle.channel_core.specs.declared.pulling.Pull.{Pull}
-use Rattle.channel_core.specs.declared.pulling.Pull.TheVariants as Pull
-use Rattle.channel_core.specs.declared.put.Put.{Put}
-use Rattle.channel_core.specs.declared.put.Put.TheVariants as Put
 use Rattle.channel_core.specs.declared.tick.Tick.{Tick}
-use Rattle.channel_core.specs.declared.tick.Tick.TheVariants as Tick
 use Rattle.channel_core.specs.Call.{Entry}
-use Rattle.channel_core.specs.History.{Message, acked_numbers, closes, emitted_numbers, is_closed, is_paused, is_up, item_taken, lowest_unacked, next_in_order, number_acked, owed_acks, owed_after, owed_with, paused_after, put_messages, taken_items, up_after}
-use Rattle.channel_core.specs.Legal.{IsAnswered, IsLegal, answer_to_ack, answer_to_heard, answer_to_incoming, answer_to_pull, answer_to_put, answer_to_tick, emit_message, emit_next, emit_number, is_expired, look_at}
-use Rattle.channel_core.specs.Numbers.{has_number, item_at, least_absent, least_below, numbers_of}
-use Rattle.channel_core.specs.Resending.{due_count, is_due, is_eligible, last_moment, marked_due, round_trip, round_trip_samples, sample_of, sent_since_opened, transmissions}
-use Rattle.channel_core.specs.Stands.{EndState, Stands, queue_after}
-use Rattle.channel_core.proofs.HistoryLemmas.{acked_numbers-push}
-use Rattle.channel_core.proofs.NumberLemmas.{least_absent-grows, least_absent-is, least_absent-unique, least_below-some, has_number-last, has_number-more, has_number-other}
-use Rattle.channel_core.proofs.PendingLemmas.{Sending, kept_all, kept_all-acked, kept_all-emitted, kept_all-marked, kept_all-put, kept_all-unsent, kept_at, message_of, slice_get-past}
-use Rattle.channel_core.proofs.SearchLemmas.{find-least, find_number, first_number-kept, kept_all-first, kept_all-none, least_below-agree, message_there, passes_at}
-use Rattle.channel_core.proofs.SendingLemmas.{IsOrderly, due_answered, due_count-above, due_count-push, low-le, orderly, sending, sending_after}
-use Rattle.channel_core.proofs.StandingLemmas.{Goes, IsStill, Keeps, dues-same, goes, nothing_goes, or-false, queue_after-is, queue_of, sending-acked, sending-emitted, sending-put, sending-still, step_goes, still_goes}
-use Rattle.channel_core.proofs.StillLemmas.{after_close_still, beyond_still, emit_ack_still, ended_still, gave_up_still, heard_nomemory_still, idle_still, late_still, look_still, nothing_still, or-true, paused_still, pull_nomemory_still, put_closed_still, put_full_still, put_nomemory_still, put_spent_still, started_still, unknown_still}
+use Rattle.channel_core.specs.History.{Message, emitted_numbers, is_closed, is_up, lowest_unacked, put_messages}
+use Rattle.channel_core.specs.Legal.{IsAnswered, IsLegal, answer_to_tick, is_expired, look_at}
+use Rattle.channel_core.specs.Numbers.{has_number}
+use Rattle.channel_core.specs.Resending.{due_count, last_moment, marked_due, round_trip, sent_since_opened, transmissions}
+use Rattle.channel_core.specs.Stands.{EndState, Stands}
+use Rattle.channel_core.proofs.PendingLemmas.{Sending, kept_all-marked, message_of}
+use Rattle.channel_core.proofs.SearchLemmas.{first_number-kept, kept_all-first, kept_all-none}
+use Rattle.channel_core.proofs.SendingLemmas.{IsOrderly, due_answered, low-le, orderly, sending, sending_after}
+use Rattle.channel_core.proofs.StandingLemmas.{Goes, dues-same, nothing_goes, or-false, queue_after-is, queue_of, sending-still, step_goes, still_goes}
+use Rattle.channel_core.proofs.StillLemmas.{gave_up_still, look_still, nothing_still, or-true}
 
 down_tick : (h : List Entry) (now : ℕ)
     → (is_closed h || not (is_up h)) ≡ true

@@ -13,10 +13,18 @@ use Rattle.channel_core.specs.Call.{Entry, with_earlier}
 use Rattle.channel_core.specs.Exchange.{incoming_of}
 use Rattle.channel_core.specs.History.{emissions}
 use Rattle.channel_core.specs.Laws.{WorldsGoOn}
-use Rattle.channel_core.specs.Legal.{IsAnswered, IsLegal}
-use Rattle.channel_core.specs.World.{Event, event_of, IsHonest, IsLegalWorld, WasEmitted, entry_at, history_of}
+use Rattle.channel_core.specs.Legal.{IsAnswered, IsLegal, answer_to}
+use Rattle.channel_core.specs.World.{Event, IsHonest, IsLegalWorld, WasEmitted, entry_at, history_of}
 use Rattle.channel_core.proofs.HistoryLemmas.{with_earlier-push}
 use Rattle.channel_core.proofs.LegalLemmas.{All-pushed, IsLegal-nil, IsLegal-push, IsLegal-pushed}
+
+-- a call at this end, with the answer that it gets
+abbrev pub event_of : ℕ → List Event → Side → EndCall → Event
+event_of w world side call =
+    record {
+      side = side;
+      entry = record { call = call; answer = answer_to w (history_of side world) call };
+    }
 
 -- across the channel and back
 pub other-other : (side : Side) → other (other side) ≡ side
@@ -208,7 +216,6 @@ pub worlds_go_on : WorldsGoOn
 worlds_go_on =
     record {
       start = λ w. (IsLegalWorld-nil w, IsHonest-nil);
-      next = λ w world side call legal honest emitted.
-          let right = IsRight-push w world side call (record { legal = legal; honest = honest }) emitted in
-          (right.legal, right.honest);
+      next = λ w world x legal honest answered emitted.
+          (IsLegalWorld-push w world x legal answered, IsHonest-push world x honest emitted);
     }

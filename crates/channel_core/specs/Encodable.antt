@@ -1,10 +1,8 @@
 -- What can be encoded of what goes out.
-use Rattle.std.specs.Prelude.{ℕ, ◌^◌, ◌<◌}
+use Rattle.std.specs.Prelude.{◌^◌, ◌<◌}
 use Rattle.resend_queue.specs.Queue as queue
 use Rattle.channel_core.specs.declared.pulling.Outgoing.{Outgoing}
-use Rattle.channel_core.specs.declared.pulling.Outgoing.TheVariants as Outgoing
 use Rattle.channel_core.specs.declared.pulling.Pull.{Pull}
-use Rattle.channel_core.specs.declared.pulling.Pull.TheVariants as Pull
 
 -- the number is below 2^63, the date isn't 0, and the payload is at most 65,536 bytes
 abbrev pub IsEncodable : Outgoing → Type 0

@@ -5,25 +5,26 @@ use Rattle.chan_io.specs.declared.side.Side.{Side}
 use Rattle.chan_io.specs.Sides.{other}
 use Rattle.agent_message.specs.declared.item.Item.{Item}
 use Rattle.channel_core.specs.declared.call.EndAnswer.TheVariants as EndAnswer
-use Rattle.channel_core.specs.declared.call.EndCall.{EndCall}
 use Rattle.channel_core.specs.declared.hearing.Heard.TheVariants as Heard
 use Rattle.channel_core.specs.Call.{Entry}
+use Rattle.channel_core.specs.Callable.{IsCallable}
+use Rattle.channel_core.specs.Encodable.{IsEncodable}
 use Rattle.channel_core.specs.Exchange.{IsExchange, pull_count}
 use Rattle.channel_core.specs.History.{acked_numbers, early_items, emissions, is_closed, next_in_order, owed_acks, put_items, released_items, taken_items, unacked_numbers}
-use Rattle.channel_core.specs.Legal.{IsLegal}
+use Rattle.channel_core.specs.Legal.{IsAnswered, IsLegal}
 use Rattle.channel_core.specs.Numbers.{has_number, items_between}
-use Rattle.channel_core.specs.World.{Event, IsHonest, IsLegalWorld, WasEmitted, event_of, history_of}
+use Rattle.channel_core.specs.World.{Event, HearsEmitted, IsHonest, IsLegalWorld, history_of}
 
 -- a world of no events is legal and honest, and it stays so with each call that gets its
--- answer and hears nothing of the other end but what was emitted there
+-- answer, or wants for memory, and hears nothing of the other end but what was emitted there
 pub record WorldsGoOn : Type 0 where
   pub start : (w : ℕ) → IsLegalWorld w [] × IsHonest []
-  pub next : (w : ℕ) (world : List Event) (side : Side) (call : EndCall)
+  pub next : (w : ℕ) (world : List Event) (x : Event)
       → IsLegalWorld w world
       → IsHonest world
-      → WasEmitted (emissions (history_of (other side) world)) call
-      → IsLegalWorld w (world ++ event_of w world side call ∷ [])
-      × IsHonest (world ++ event_of w world side call ∷ [])
+      → IsAnswered w (history_of x.side world) x.entry.call x.entry.answer
+      → HearsEmitted world x
+      → IsLegalWorld w (world ++ x ∷ []) × IsHonest (world ++ x ∷ [])
 
 -- the second list begins with the first
 abbrev pub IsPrefixOf : {X : Type 0} → List X → List X → Type 0
@@ -67,7 +68,7 @@ AcknowledgedHasArrived =
     → has_number (acked_numbers (history_of side world)) n ≡ true
     → HasArrived (history_of side world) (history_of (other side) world) n
 
--- no message that an end hears is outside its window, however late it comes
+-- no message that an end hears is answered as beyond its window, however late it comes
 abbrev pub NothingIsBeyond : Type 0
 NothingIsBeyond =
     (w : ℕ) (world : List Event)
@@ -84,6 +85,14 @@ pub record IsWithinWindow (w : ℕ) (h : List Entry) : Type 0 where
 -- an end keeps no more than its window
 abbrev pub WindowBoundsMessages : Type 0
 WindowBoundsMessages = (w : ℕ) (h : List Entry) → IsLegal w h → IsWithinWindow w h
+
+-- what an end emits can be encoded, where each call was one that may be made
+abbrev pub EmissionsCanBeEncoded : Type 0
+EmissionsCanBeEncoded =
+    (w : ℕ) (h : List Entry)
+    → IsLegal w h
+    → All (λ e. IsCallable e.call) h
+    → All IsEncodable (emissions h)
 
 -- after one exchange without a loss, at the end of which neither end is closed, each end has
 -- released all that the other put in

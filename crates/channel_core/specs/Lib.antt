@@ -1,5 +1,6 @@
 pub mod Arrival
 pub mod Call
+pub mod Callable
 pub mod Encodable
 pub mod Exchange
 pub mod History

@@ -1,5 +1,5 @@
 -- What an end keeps, and the histories that it stands for.
-use Rattle.std.specs.Prelude.{◌≡◌, ℕ, ◌^◌, ◌<◌, ◌≤◌, Bool, Option, Some, None, List, [], ◌∷◌, ◌++◌, length, if◌then◌else◌, nat_lt, slice_get}
+use Rattle.std.specs.Prelude.{◌≡◌, ℕ, ◌^◌, ◌<◌, Bool, Option, Some, None, List, [], ◌∷◌, ◌++◌, length, if◌then◌else◌, nat_lt, slice_get}
 use Rattle.std.specs.List.{filter_map}
 use Rattle.std.specs.Option.{option_map}
 use Rattle.agent_message.specs.declared.item.Item.{Item}
@@ -9,7 +9,6 @@ use Rattle.receive_window.specs.Window.{WindowState, item_with}
 use Rattle.channel_core.specs.declared.call.EndAnswer.{EndAnswer}
 use Rattle.channel_core.specs.declared.call.EndCall.{EndCall}
 use Rattle.channel_core.specs.declared.hearing.Incoming.{Incoming}
-use Rattle.channel_core.specs.declared.hearing.Incoming.TheVariants as Incoming
 use Rattle.channel_core.specs.Call.{Entry}
 use Rattle.channel_core.specs.History.{Message, emitted_numbers, is_closed, is_paused, is_up, lowest_unacked, next_in_order, owed_acks, put_messages, taken_items, unacked_numbers}
 use Rattle.channel_core.specs.Legal.{IsLegal}

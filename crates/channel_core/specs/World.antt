@@ -9,7 +9,7 @@ use Rattle.channel_core.specs.declared.hearing.Incoming.TheVariants as Incoming
 use Rattle.channel_core.specs.declared.pulling.Outgoing.{Outgoing}
 use Rattle.channel_core.specs.Call.{Entry, with_earlier}
 use Rattle.channel_core.specs.History.{emissions}
-use Rattle.channel_core.specs.Legal.{IsLegal, answer_to}
+use Rattle.channel_core.specs.Legal.{IsLegal}
 
 -- an entry and the end at which it happened
 pub record Event : Type 0 where
@@ -26,14 +26,6 @@ entry_at Agent Plugin entry = None
 -- what happened at one end
 unfoldable pub history_of : Side → List Event → List Entry
 history_of side world = filter_map (λ x. entry_at side x.side x.entry) world
-
--- a call at this end, with the answer that it gets
-abbrev pub event_of : ℕ → List Event → Side → EndCall → Event
-event_of w world side call =
-    record {
-      side = side;
-      entry = record { call = call; answer = answer_to w (history_of side world) call };
-    }
 
 -- both ends, each with the window w, answer as they should
 abbrev pub IsLegalWorld : ℕ → List Event → Type 0

@@ -36,7 +36,7 @@ pub enum Incoming {
 pub enum Heard {
     /// A stream message was taken, and these items are now in order; none if it came early.
     Released(Items),
-    /// A stream message was taken before. It is acknowledged again.
+    /// A stream message was taken before. It is acknowledged again, where there is room to owe it.
     Late,
     /// The number of a stream message is outside the receive window. It is not acknowledged.
     Beyond,

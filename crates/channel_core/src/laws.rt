@@ -5,9 +5,10 @@
 //! It may lose, repeat and reorder messages, drop connections and pause the ends as it likes.
 //! A law is the contract of a function with an empty body, by the definitions of `specs/`.
 
-ghost use Rattle.channel_core.specs.Laws.{AcknowledgedHasArrived, EachNumberIsTakenOnce, ExchangeIsPossible, ExchangeIsShort, ExchangeReleasesAll, NothingIsBeyond, ReleasedIsInOrder, ReleasedIsPrefix, WindowBoundsMessages, WorldsGoOn};
+ghost use Rattle.channel_core.specs.Laws.{AcknowledgedHasArrived, EachNumberIsTakenOnce, EmissionsCanBeEncoded, ExchangeIsPossible, ExchangeIsShort, ExchangeReleasesAll, NothingIsBeyond, ReleasedIsInOrder, ReleasedIsPrefix, WindowBoundsMessages, WorldsGoOn};
 
-/// A world goes on with any call that gets its answer and hears only what was emitted.
+/// A world goes on with any call that gets its answer, or wants for memory, and hears only what was
+/// emitted.
 pub fn worlds_go_on()
     ensures { WorldsGoOn }
 {}
@@ -32,7 +33,7 @@ pub fn acknowledged_has_arrived()
     ensures { AcknowledgedHasArrived }
 {}
 
-/// No message is outside the receive window, however late it comes.
+/// No message is answered as beyond the receive window, however late it comes.
 pub fn nothing_is_beyond()
     ensures { NothingIsBeyond }
 {}
@@ -43,7 +44,13 @@ pub fn window_bounds_messages()
     ensures { WindowBoundsMessages }
 {}
 
-/// After any legal and honest world, one exchange without a loss releases all the rest.
+/// What an end emits can be encoded, where each of its calls met its conditions.
+pub fn emissions_can_be_encoded()
+    ensures { EmissionsCanBeEncoded }
+{}
+
+/// After any legal and honest world, one exchange without a loss, at the end of which neither end is
+/// closed, releases all the rest.
 pub fn exchange_releases_all()
     ensures { ExchangeReleasesAll }
 {}

@@ -1,4 +1,4 @@
-use Rattle.std.proofs.Common.{◌≡◌, refl, sym, ◌∙◌, ap, Some, None}
+use Rattle.std.proofs.Common.{refl}
 use Rattle.channel_core.proofs.AckLemmas.{acked_goes, unknown_goes}
 use Rattle.channel_core.proofs.end.End.hear_ack.Goals as goal
 

@@ -1,12 +1,8 @@
-use Rattle.std.proofs.Common.{◌≡◌, ◌+◌, refl, sym, ◌∙◌, ap}
-use Rattle.agent_message.specs.declared.item.Item.{Item}
+use Rattle.std.proofs.Common.{◌+◌, refl}
 use Rattle.receive_window.specs.declared.take.Take.TheVariants as Take
 use Rattle.receive_window.specs.Window.{is_taken}
-use Rattle.channel_core.specs.declared.hearing.Heard.TheVariants as Heard
 use Rattle.channel_core.specs.declared.hearing.Incoming.TheVariants as Incoming
-use Rattle.channel_core.specs.declared.call.EndAnswer.TheVariants as EndAnswer
-use Rattle.channel_core.proofs.StandingLemmas.{Goes}
-use Rattle.channel_core.proofs.HearingLemmas.{beyond_goes, heard_none_goes, late_goes, stream_call}
+use Rattle.channel_core.proofs.HearingLemmas.{beyond_goes, heard_none_goes, late_goes}
 use Rattle.channel_core.proofs.ReleaseLemmas.{beyond-late, inside, released-beyond, released-late, released_goes, untaken}
 use Rattle.channel_core.proofs.end.End.hear_stream.Goals as goal
 

@@ -1,6 +1,5 @@
-use Rattle.std.proofs.Common.{◌≡◌, ◌-◌, refl, sym, ◌∙◌, ap, cond, ℕ}
+use Rattle.std.proofs.Common.{◌≡◌, ◌-◌, refl, ◌∙◌, cond}
 use Rattle.resend_queue.specs.Queue.{lowest}
-use Rattle.channel_core.specs.Stands.{EndState}
 use Rattle.channel_core.proofs.TickLemmas.{look_goes}
 use Rattle.channel_core.proofs.end.End.look.Goals as goal
 use Rattle.channel_core.proofs.end.End.look.Goals.{then-self, else-self}

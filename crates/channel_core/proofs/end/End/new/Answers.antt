@@ -1,4 +1,4 @@
-use Rattle.std.proofs.Common.{◌≡◌, refl, sym, ◌∙◌, ap}
+use Rattle.std.proofs.Common.{refl}
 use Rattle.channel_core.proofs.StandingLemmas.{stands_nil}
 use Rattle.channel_core.proofs.end.End.new.Goals as goal
 

@@ -1,5 +1,5 @@
-use Rattle.std.proofs.Common.{◌≡◌, ℕ, ◌^◌, ◌<◌, ◌≤◌, ◌||◌, Bool, List, [], ◌∷◌, ◌++◌, true, false, not, drop, length, refl, sym, ◌∙◌, ap, arith, Some, None}
-use Rattle.std.proofs.lemmas.Bool.{or_from, or_left, or_right, not_from_false, not_from_true}
+use Rattle.std.proofs.Common.{◌≡◌, ℕ, ◌^◌, ◌<◌, List, [], ◌∷◌, not, drop, length, refl, sym, ◌∙◌, ap, arith}
+use Rattle.std.proofs.lemmas.Bool.{or_left, or_right, not_from_false}
 use Rattle.std.proofs.lemmas.List.Elements.{All-drop}
 use Rattle.channel_core.proofs.PullLemmas.{pull_down_goes, pull_ack_goes, pull_paused_goes, pull_out_goes, pull_of}
 use Rattle.channel_core.proofs.end.End.pull.Goals as goal

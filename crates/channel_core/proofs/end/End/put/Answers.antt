@@ -1,9 +1,4 @@
-use Rattle.std.proofs.Common.{◌≡◌, refl, sym, ◌∙◌, ap, ℕ, max}
-use Rattle.channel_core.specs.declared.put.Put.{Put}
-use Rattle.channel_core.specs.declared.call.EndAnswer.TheVariants as EndAnswer
-use Rattle.channel_core.specs.declared.call.EndCall.TheVariants as EndCall
-use Rattle.resend_queue.specs.declared.kept.Kept.{Kept}
-use Rattle.channel_core.proofs.StandingLemmas.{Goes}
+use Rattle.std.proofs.Common.{◌≡◌, refl, sym, ◌∙◌, ap}
 use Rattle.channel_core.proofs.PutLemmas.{put_closed_goes, put_goes, put_of}
 use Rattle.channel_core.proofs.end.End.put.Goals as goal
 use Rattle.channel_core.proofs.end.End.put.Goals.{in-Seq, in-Spent, in-Full, in-NoMemory}
