@@ -1,5 +1,5 @@
 //! What the threads of one run of a session share. The first such value is the end of the data
-//! channel: a lock over it has one history, and that is a legal history of the end.
+//! channel: what a seat of a lock over it has seen is a legal history of the end.
 #![tactic(auto)]
 
 mod held;

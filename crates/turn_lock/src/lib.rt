@@ -1,5 +1,5 @@
-//! A ticket lock round a value. Its calls are served in the order of their tickets, and have one
-//! history, which each seat of the lock has seen in part.
+//! A ticket lock round a value. Its calls are served in the order of their tickets. What a seat has
+//! seen is a legal history of the value, and the seats that are joined have seen parts of one.
 #![tactic(auto)]
 
 mod lock;

@@ -55,7 +55,8 @@ impl<V: Turn> TurnLock<V> {
         answer
     }
 
-    /// Splits a seat off, for another thread. It takes no memory, and the answer is always Ok.
+    /// Splits a seat off, for another thread. The answer is always Ok. That it takes no memory is a
+    /// choice of the body, which no clause says.
     pub fn split(&self, seat: &mut Seat<V>) -> Result<Seat<V>, NoMemory>
         requires { IsSeatOf self.now seat.old }
         ensures ok { IsOk result }
