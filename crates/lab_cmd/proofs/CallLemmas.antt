@@ -1,5 +1,5 @@
 -- What became of a call at an end.
-use Rattle.std.proofs.Common.{◌≡◌, ◌≢◌, ◌⊎◌, ⊎_elim, ℕ, Result, Ok, Err, IfOk, refl, sym, ap, subst, ◌∙◌}
+use Rattle.std.proofs.Common.{◌≡◌, ◌≢◌, ℕ, Result, IfOk}
 use Rattle.std.proofs.lemmas.List.Elements.{All-nil}
 use Rattle.std.proofs.lemmas.Result.{IfOk-weaker}
 use Rattle.chan_io.specs.declared.failed.NoMemory.{NoMemory}
@@ -7,9 +7,7 @@ use Rattle.chan_io.specs.declared.side.Side.{Side}
 use Rattle.channel_core.specs.declared.call.EndAnswer.TheVariants as EndAnswer
 use Rattle.channel_core.specs.declared.call.EndCall.TheVariants as EndCall
 use Rattle.channel_core.specs.declared.hearing.Heard.{Heard}
-use Rattle.channel_core.specs.declared.hearing.Heard.TheVariants as Heard
 use Rattle.channel_core.specs.declared.hearing.Incoming.{Incoming}
-use Rattle.channel_core.specs.declared.pulling.Outgoing.{Outgoing}
 use Rattle.channel_core.specs.Stands.{EndState, Follows}
 use Rattle.lab_script.specs.declared.outcome.Outcome.{Outcome}
 use Rattle.lab_cmd.specs.Ends.{IsCalled}

@@ -1,12 +1,9 @@
 -- There is one status that the words and the bytes that are left call for.
-use Rattle.std.proofs.Common.{◌≡◌, ℕ, ◌+◌, ◌<◌, ◌≤◌, ◌⊎◌, ⊎_elim, inl, inr, zero, suc, List, [], ◌∷◌, ◌++◌, length, take, drop, refl, sym, ap, subst, ◌∙◌, append_assoc, arith}
+use Rattle.std.proofs.Common.{◌≡◌, ℕ, ◌+◌, ◌<◌, ◌≤◌, ⊎_elim, zero, suc, List, [], ◌∷◌, ◌++◌, length, take, refl, sym, ap, subst, ◌∙◌, append_assoc, arith}
 use Rattle.std.proofs.Math.Seq.{take-nil}
-use Rattle.chan_io.specs.Sources.{Input}
 use Rattle.lab_script.specs.Lines.{lines_of}
 use Rattle.lab_cmd.specs.declared.status.Status.{Status}
-use Rattle.lab_cmd.specs.declared.status.Status.TheVariants as Status
 use Rattle.lab_cmd.specs.Meanings.{IsDue}
-use Rattle.lab_cmd.specs.Script.{IsScript}
 use Rattle.lab_cmd.specs.Words.{Begins, IsWords, IsWordsFault}
 use Rattle.lab_cmd.proofs.ScriptLemmas.{IsFirstBad-unique, not_both}
 
@@ -44,7 +41,8 @@ earlier words k m a b less =
     (λ (none : ¬ Begins (take (k + 1) words)). none (Begins-front (k + 1) m words (omega (arith, less)) b.begin))
     a.stop
 
-IsWordsFault-unique : (words : List (List ℕ)) (k m : ℕ) → IsWordsFault words k → IsWordsFault words m → k ≡ m
+-- words have one place at which they stop being a command line
+pub IsWordsFault-unique : (words : List (List ℕ)) (k m : ℕ) → IsWordsFault words k → IsWordsFault words m → k ≡ m
 IsWordsFault-unique words k m a b =
     let left : ¬ (k < m) = earlier words k m a b in
     let right : ¬ (m < k) = earlier words m k b a in

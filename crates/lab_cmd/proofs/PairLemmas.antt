@@ -1,6 +1,6 @@
 -- The two ends after a step.
-use Rattle.std.proofs.Common.{◌≡◌, ℕ, Option, Some, None, List, [], ◌∷◌, ◌++◌, map, refl, sym, ap, subst, ◌∙◌}
-use Rattle.std.specs.List.{All, cons_option}
+use Rattle.std.proofs.Common.{◌≡◌, ℕ, List, [], ◌∷◌, ◌++◌, sym, ap, subst, ◌∙◌}
+use Rattle.std.specs.List.{cons_option}
 use Rattle.chan_io.specs.declared.side.Side.{Side}
 use Rattle.chan_io.specs.declared.side.Side.TheVariants.{Plugin, Agent}
 use Rattle.chan_io.specs.Sides.{other}
@@ -9,9 +9,8 @@ use Rattle.channel_core.specs.World.{Event, history_of}
 use Rattle.channel_core.proofs.WorldLemmas.{IsRight}
 use Rattle.lab_script.specs.declared.command.Command.{Command}
 use Rattle.lab_script.specs.declared.outcome.Outcome.{Outcome}
-use Rattle.lab_cmd.specs.declared.endpoint.Endpoint.{Endpoint}
 use Rattle.lab_cmd.specs.declared.pair.Pair.{Pair}
-use Rattle.lab_cmd.specs.Ends.{IsEndpoint, IsPair, Makes, PairMakes, encodings_in, endpoint_of}
+use Rattle.lab_cmd.specs.Ends.{AllSendable, IsEndpoint, IsPair, PairMakes, encodings_in, endpoint_of}
 use Rattle.lab_cmd.specs.Run.{events_of, start, steps_of}
 use Rattle.lab_cmd.proofs.RunLemmas.{IsRight-start, IsRight-steps}
 
@@ -52,3 +51,8 @@ IsPair-kept w side world now line command old new outcome made same sent away =
     let there : IsEndpoint w (other side) (history_of (other side) longer) (endpoint_of (other side) new) =
     rw (m.away, away) made.there in
     subst (λ (xs : List Event). IsPair w (world ++ xs) new) (sym events) (both w side longer new right here there)
+
+-- what the ends of a pair emitted has an encoding
+pub AllSendable-IsPair : (w : ℕ) (world : List Event) (pair : Pair) → IsPair w world pair → AllSendable world
+AllSendable-IsPair w world pair is Plugin = is.plugin.sendable
+AllSendable-IsPair w world pair is Agent = is.agent.sendable

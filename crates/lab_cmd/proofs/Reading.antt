@@ -1,5 +1,5 @@
 -- What was read of a source, piece after piece.
-use Rattle.std.proofs.Common.{◌≡◌, ℕ, ◌+◌, ◌≤◌, Option, Some, None, List, [], ◌++◌, length, refl, sym, ap, subst, ◌∙◌, arith, length-append, append-nil}
+use Rattle.std.proofs.Common.{◌≡◌, ℕ, ◌≤◌, Option, Some, None, List, [], length, refl, sym, ap, subst, ◌∙◌, arith, length-append, append-nil}
 use Rattle.chan_io.specs.Sources.{Input, Reads}
 use Rattle.lab_cmd.specs.Inputs.{ReadSome, GivesAtMost}
 

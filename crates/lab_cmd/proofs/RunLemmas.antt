@@ -1,31 +1,28 @@
 -- What a script makes of the two ends.
-use Rattle.std.proofs.Common.{◌≡◌, ℕ, ◌+◌, ◌-◌, Option, Some, None, List, [], ◌∷◌, ◌++◌, length, slice_get, refl, sym, ap, subst, ◌∙◌, append_assoc, append-nil, add-zero, arith}
-use Rattle.std.specs.List.{cons_option, filter_map, flat_map, fold}
+use Rattle.std.proofs.Common.{◌≡◌, ◌≢◌, ℕ, ◌+◌, ◌-◌, false, Option, Some, None, List, [], ◌∷◌, ◌++◌, length, refl, sym, ap, subst, ◌∙◌, append_assoc, append-nil, add-zero, arith}
+use Rattle.std.specs.List.{fold}
 use Rattle.std.proofs.lemmas.List.Elements.{filter_map-append}
 use Rattle.std.proofs.lemmas.Grind.{flat_map-append}
 use Rattle.std.proofs.lemmas.List.Sums.{fold-append}
-use Rattle.std.proofs.lemmas.List.{length-append}
-use Rattle.chan_io.specs.declared.side.Side.{Side}
 use Rattle.chan_io.specs.declared.side.Side.TheVariants.{Plugin, Agent}
 use Rattle.chan_io.specs.Sides.{other}
 use Rattle.channel_core.specs.declared.call.EndCall.{EndCall}
-use Rattle.channel_core.specs.declared.call.EndCall.TheVariants as EndCall
 use Rattle.channel_core.specs.declared.hearing.Incoming.TheVariants as Incoming
 use Rattle.channel_core.specs.declared.pulling.Outgoing.{Outgoing}
 use Rattle.channel_core.specs.Exchange.{incoming_of}
-use Rattle.channel_core.specs.History.{emissions}
+use Rattle.channel_core.specs.History.{emissions, is_closed, put_items, released_items}
 use Rattle.channel_core.specs.World.{Event, WasEmitted, history_of}
 use Rattle.channel_core.proofs.WorldLemmas.{IsRight, IsRight-nil, IsRight-push, WasEmitted-at}
 use Rattle.lab_script.specs.Report.{report_line}
 use Rattle.lab_script.specs.declared.command.Command.{Command}
-use Rattle.lab_script.specs.declared.command.Command.TheVariants as Command
 use Rattle.lab_script.specs.declared.which.Which.{Which}
-use Rattle.lab_script.specs.declared.which.Which.TheVariants as Which
-use Rattle.channel_core.proofs.DeliveryLemmas.{released_is_prefix}
+use Rattle.channel_core.proofs.DeliveryLemmas.{each_number_is_taken_once, released_is_prefix}
+use Rattle.channel_core.proofs.ExchangeLemmas.{exchange_releases_all}
 use Rattle.lab_cmd.specs.Ends.{side_of}
-use Rattle.lab_cmd.specs.Meanings.{IsFaithful}
+use Rattle.lab_cmd.specs.Meanings.{IsFaithful, IsSettled}
 use Rattle.lab_cmd.specs.Report.{report}
-use Rattle.lab_cmd.specs.Run.{Progress, Step, emission_at, events_of, heard_at, id_of, progress, progress_after, run, start, steps_of, world_of}
+use Rattle.lab_cmd.specs.Run.{Progress, Step, emission_at, events_of, heard_at, id_of, progress, progress_after, run, settle_steps, start, steps_of, world_of}
+use Rattle.lab_cmd.proofs.SettleLemmas.{IsRight-settle, settle_has_lines, settle_is_exchange}
 
 -- before the first line the world is legal and honest
 pub IsRight-start : (w : ℕ) → IsRight w start
@@ -58,7 +55,7 @@ IsRight-steps w world now line (Command.Open side) r = IsRight-push w world side
 IsRight-steps w world now line (Command.Pause side) r = IsRight-push w world side (EndCall.Heard now Incoming.Pause) r tt
 IsRight-steps w world now line (Command.Start side) r = IsRight-push w world side (EndCall.Heard now Incoming.Start) r tt
 IsRight-steps w world now line (Command.End side) r = IsRight-push w world side (EndCall.Heard now (Incoming.Closing [])) r tt
-IsRight-steps w world now line Command.Settle r = rw append-nil r
+IsRight-steps w world now line Command.Settle r = IsRight-settle w world now line r
 
 -- more steps are more of the world
 pub world_of-append : (a b : List Step) → world_of (a ++ b) ≡ world_of a ++ events_of b
@@ -149,34 +146,69 @@ run-push w commands command now line at number =
     (λ n. run w commands ++ steps_of w (world_of (run w commands)) now n command)
     (line-progress w commands ∙ sym number)
 
--- a line that is done at no one end makes no step
+-- a line that is done at no one end makes no step, but for a settle
 pub no_steps : (w : ℕ) (world : List Event) (now line : ℕ) (command : Command)
-    → side_of command ≡ None → steps_of w world now line command ≡ []
-no_steps w world now line (Command.At moment) none = refl
-no_steps w world now line (Command.Put side item) none = absurd (cc)
-no_steps w world now line (Command.Pull side) none = absurd (cc)
-no_steps w world now line (Command.Tick side) none = absurd (cc)
-no_steps w world now line (Command.Close side) none = absurd (cc)
-no_steps w world now line (Command.Hear side which) none = absurd (cc)
-no_steps w world now line (Command.Hurt side which place) none = refl
-no_steps w world now line (Command.Lost side) none = absurd (cc)
-no_steps w world now line (Command.Open side) none = absurd (cc)
-no_steps w world now line (Command.Pause side) none = absurd (cc)
-no_steps w world now line (Command.Start side) none = absurd (cc)
-no_steps w world now line (Command.End side) none = absurd (cc)
-no_steps w world now line Command.Settle none = refl
+    → side_of command ≡ None → command ≢ Command.Settle → steps_of w world now line command ≡ []
+no_steps w world now line (Command.At moment) none unsettled = refl
+no_steps w world now line (Command.Put side item) none unsettled = absurd (cc)
+no_steps w world now line (Command.Pull side) none unsettled = absurd (cc)
+no_steps w world now line (Command.Tick side) none unsettled = absurd (cc)
+no_steps w world now line (Command.Close side) none unsettled = absurd (cc)
+no_steps w world now line (Command.Hear side which) none unsettled = absurd (cc)
+no_steps w world now line (Command.Hurt side which place) none unsettled = absurd (cc)
+no_steps w world now line (Command.Lost side) none unsettled = absurd (cc)
+no_steps w world now line (Command.Open side) none unsettled = absurd (cc)
+no_steps w world now line (Command.Pause side) none unsettled = absurd (cc)
+no_steps w world now line (Command.Start side) none unsettled = absurd (cc)
+no_steps w world now line (Command.End side) none unsettled = absurd (cc)
+no_steps w world now line Command.Settle none unsettled = absurd (unsettled refl)
 
--- the world of a script is legal and honest, and what was released there is a prefix of what was put in
-pub run_is_faithful : (w : ℕ) (commands : List Command) → IsFaithful w (world_of (run w commands))
+-- the world of a script is legal and honest, each number is taken once there, what was released is a
+-- prefix of what was put in, and a script that goes on has the same beginning
+pub run_is_faithful : (w : ℕ) (commands : List Command) → IsFaithful w commands
 run_is_faithful w commands =
     let r = IsRight-run w commands in
     record {
       legal = r.legal;
       honest = r.honest;
+      once = λ side. each_number_is_taken_once w (history_of side (world_of (run w commands))) (r.legal side);
       prefix = λ side. released_is_prefix w (world_of (run w commands)) side r.legal r.honest;
+      begins = λ rest. let more = run-front w commands rest in (more.0, sym more.1);
     }
 
--- a list of length 0 is empty
-pub empty_list : {X : Type 0} (xs : List X) → length xs ≡ 0 → xs ≡ []
-empty_list [] none = refl
-empty_list (x ∷ xs) none = absurd (omega (arith, none))
+-- a settle is an exchange with the steps of its lines, after which all that was put in is released where neither end is closed
+pub run_is_settled : (w : ℕ) (commands : List Command) → IsSettled w commands
+run_is_settled w commands =
+    record {
+      exchange = λ now line. settle_is_exchange w before now line right;
+      lines = λ now line. settle_has_lines w before now line right;
+      released = λ unclosed side.
+          let all : released_items (history_of (other side) (before ++ xs)) ≡ put_items (history_of side (before ++ xs))
+          = exchange_releases_all w before xs side
+          (IsRight-settle w before now line right).legal right.honest
+          (settle_is_exchange w before now line right)
+          (λ end. subst (λ world. is_closed (history_of end world) ≡ false) after (unclosed end)) in
+          subst
+          (λ world. released_items (history_of (other side) world) ≡ put_items (history_of side world))
+          (sym after) all;
+    }
+  where
+    before : List Event
+    before = world_of (run w commands)
+
+    right : IsRight w before
+    right = IsRight-run w commands
+
+    now : ℕ
+    now = (progress w commands).now
+
+    line : ℕ
+    line = length commands + 1
+
+    xs : List Event
+    xs = events_of (settle_steps w before now line)
+
+    after : world_of (run w (commands ++ Command.Settle ∷ [])) ≡ before ++ xs
+    after =
+        ap world_of (run-push w commands Command.Settle now line refl refl)
+        ∙ world_of-append (run w commands) (settle_steps w before now line)

@@ -1,35 +1,29 @@
 -- Which line of an input is the first that is out of the grammar.
-use Rattle.std.proofs.Common.{◌≡◌, ℕ, ◌+◌, ◌<◌, ◌≤◌, ◌⊎◌, inl, inr, List, [], ◌∷◌, ◌++◌, length, map, get_or, refl, sym, ap, subst, ◌∙◌, arith}
+use Rattle.std.proofs.Common.{◌≡◌, ℕ, ◌+◌, ◌<◌, List, [], ◌∷◌, ◌++◌, length, map, get_or, refl, sym, ap, subst, ◌∙◌, arith}
 use Rattle.std.specs.List.{All}
 use Rattle.std.proofs.Math.Seq.{get_or-append_seam}
 use Rattle.std.proofs.lemmas.List.{length-append, length-map, get_or_append_left}
 use Rattle.std.proofs.lemmas.List.Elements.{All-map}
 use Rattle.lab_script.specs.declared.command.Command.{Command}
-use Rattle.lab_script.specs.Command.{Says, spelling}
+use Rattle.lab_script.specs.Command.{IsCommand, IsScriptLine, spelling}
 use Rattle.lab_script.specs.Lines.{lines_of}
-use Rattle.lab_script.proofs.OneSpelling.{says_one}
-use Rattle.lab_cmd.specs.Script.{IsBuilt, IsFirstBad, IsLabCommand, IsLabLine, IsScript}
+use Rattle.lab_cmd.specs.Script.{IsFirstBad, IsScript}
 
--- the spelling of a command of the lab is a line of the grammar
-says_spelling : (command : Command) → IsLabCommand command → IsLabLine (spelling command)
-says_spelling command in_range = (command, record { in_range = in_range.0; spelled = refl }, in_range.1)
+-- the spelling of a command is a line of the grammar
+says_spelling : (command : Command) → IsCommand command → IsScriptLine (spelling command)
+says_spelling command in_range = (command, record { in_range = in_range; spelled = refl })
 
--- so are those of commands of the lab
-pub All-says : (commands : List Command) → All IsLabCommand commands → All IsLabLine (map spelling commands)
+-- so are those of commands
+pub All-says : (commands : List Command) → All IsCommand commands → All IsScriptLine (map spelling commands)
 All-says commands in_range =
-    All-map IsLabLine spelling commands (λ k d within. says_spelling _ (in_range k d within))
-
--- a line that says a command of another verb is out of the grammar
-pub not_built : (line : List ℕ) (command : Command) → Says line command → ¬ IsBuilt command → ¬ IsLabLine line
-not_built line command says unbuilt said =
-    unbuilt (subst IsBuilt (says_one line said.0 command said.1 says) said.2)
+    All-map IsScriptLine spelling commands (λ k d within. says_spelling _ (in_range k d within))
 
 -- a line out of the grammar behind those of commands is the first
 pub IsFirstBad-after : (commands : List Command) (n : ℕ) (bad : List ℕ) (rest lines : List (List ℕ))
     → map spelling commands ++ bad ∷ rest ≡ lines
-    → All IsLabCommand commands
+    → All IsCommand commands
     → n ≡ length commands + 1
-    → ¬ IsLabLine bad
+    → ¬ IsScriptLine bad
     → IsFirstBad n lines
 IsFirstBad-after commands n bad rest lines parts in_range place out =
     record {
@@ -54,8 +48,8 @@ bad_within n lines b =
 -- an input with a bad line is no script
 pub not_both : (n : ℕ) (commands : List Command) (input : List ℕ) → IsScript commands input → IsFirstBad n (lines_of input) → ⊥
 not_both n commands input script b =
-    let all : All IsLabLine (lines_of input) = subst (All IsLabLine) (sym script.spelled) (All-says commands script.in_range) in
-    b.out (subst IsLabLine (bad_at n (lines_of input) b) (all (length b.good) [] (bad_within n (lines_of input) b)))
+    let all : All IsScriptLine (lines_of input) = subst (All IsScriptLine) (sym script.spelled) (All-says commands script.in_range) in
+    b.out (subst IsScriptLine (bad_at n (lines_of input) b) (all (length b.good) [] (bad_within n (lines_of input) b)))
 
 -- a line before the first bad one is good
 earlier_is_good : (n m : ℕ) (lines : List (List ℕ)) (a : IsFirstBad n lines) (b : IsFirstBad m lines)
@@ -65,7 +59,7 @@ earlier_is_good n m lines a b less =
     sym (get_or_append_left b.good (b.bad ∷ b.rest) [] (length a.good) less)
     ∙ ap (λ (xs : List (List ℕ)). get_or xs (length a.good) []) (sym b.parts)
     ∙ bad_at n lines a in
-    a.out (subst IsLabLine at (b.before (length a.good) [] less))
+    a.out (subst IsScriptLine at (b.before (length a.good) [] less))
 
 -- there is one first bad line
 pub IsFirstBad-unique : (n m : ℕ) (lines : List (List ℕ)) → IsFirstBad n lines → IsFirstBad m lines → n ≡ m

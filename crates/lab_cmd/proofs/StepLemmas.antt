@@ -1,44 +1,39 @@
 -- What one step of a script leaves at the two ends.
-use Rattle.std.proofs.Common.{◌≡◌, ◌⊎◌, ⊎_elim, ℕ, Option, Some, None, List, [], ◌∷◌, ◌++◌, length, map, refl, sym, ap, subst, ◌∙◌, Result, IfOk, MatchOption, append-nil, append_assoc}
+use Rattle.std.proofs.Common.{◌≡◌, ⊎_elim, ℕ, Bool, true, false, cond, Option, Some, None, List, [], ◌∷◌, ◌++◌, length, map, refl, sym, ap, subst, ◌∙◌, Result, IfOk, MatchOption, append-nil}
+use Rattle.std.specs.Prelude.{nat_lt}
 use Rattle.std.specs.List.{All, cons_option}
+use Rattle.std.specs.Str.{bytes_eq}
 use Rattle.std.proofs.lemmas.Result.{IfOk-weaker}
-use Rattle.std.proofs.lemmas.List.{length-map, map-append}
+use Rattle.std.proofs.lemmas.List.{map-append}
 use Rattle.std.proofs.lemmas.List.Elements.{All-append, All-nil}
 use Rattle.chan_io.specs.declared.failed.NoMemory.{NoMemory}
 use Rattle.chan_io.specs.declared.side.Side.{Side}
 use Rattle.chan_io.specs.Sides.{other}
+use Rattle.agent_message.specs.Sha256.{sha256}
 use Rattle.channel_core.specs.declared.call.EndAnswer.{EndAnswer}
-use Rattle.channel_core.specs.declared.call.EndAnswer.TheVariants as EndAnswer
 use Rattle.channel_core.specs.declared.call.EndCall.{EndCall}
-use Rattle.channel_core.specs.declared.call.EndCall.TheVariants as EndCall
 use Rattle.channel_core.specs.declared.hearing.Heard.{Heard}
-use Rattle.channel_core.specs.declared.hearing.Heard.TheVariants as Heard
 use Rattle.channel_core.specs.declared.pulling.Outgoing.{Outgoing}
 use Rattle.channel_core.specs.declared.pulling.Pull.{Pull}
-use Rattle.channel_core.specs.declared.pulling.Pull.TheVariants as Pull
 use Rattle.channel_core.specs.declared.put.Put.{Put}
-use Rattle.channel_core.specs.declared.put.Put.TheVariants as Put
 use Rattle.channel_core.specs.declared.tick.Tick.{Tick}
-use Rattle.channel_core.specs.declared.tick.Tick.TheVariants as Tick
 use Rattle.channel_core.specs.Call.{Entry}
 use Rattle.channel_core.specs.Exchange.{incoming_of, opening}
 use Rattle.channel_core.specs.History.{emissions, message_emitted}
 use Rattle.channel_core.specs.Legal.{IsAnswered, IsNoMemory, answer_to}
 use Rattle.channel_core.specs.Stands.{EndState, Follows, Stands}
-use Rattle.channel_core.specs.Wire.{encoding}
+use Rattle.channel_core.specs.Wire.{encoding, message_of}
 use Rattle.channel_core.specs.World.{Event, IsLegalWorld, history_of}
 use Rattle.channel_core.proofs.HistoryLemmas.{emissions-push}
 use Rattle.channel_core.proofs.LegalLemmas.{IsLegal-nil, IsLegal-pushed}
 use Rattle.channel_core.proofs.WorldLemmas.{history_of-here, history_of-away}
 use Rattle.lab_script.specs.declared.command.Command.{Command}
-use Rattle.lab_script.specs.declared.command.Command.TheVariants as Command
 use Rattle.lab_script.specs.declared.outcome.Outcome.{Outcome}
-use Rattle.lab_script.specs.declared.outcome.Outcome.TheVariants as Outcome
 use Rattle.lab_script.specs.declared.which.Which.{Which}
 use Rattle.lab_script.specs.Command.{verb_of}
 use Rattle.lab_cmd.specs.declared.endpoint.Endpoint.{Endpoint}
 use Rattle.lab_cmd.specs.Ends.{IsCalled, IsEndpoint, IsSendable, Makes, encodings_in}
-use Rattle.lab_cmd.specs.Run.{Step, called, emission_at, heard_at, outcome_of, outcome_of_heard, outcome_of_put, outcome_of_tick, steps_of}
+use Rattle.lab_cmd.specs.Run.{Step, called, damaged, emission_at, heard_at, outcome_of, outcome_of_heard, outcome_of_hurt, outcome_of_put, outcome_of_tick, steps_of}
 
 -- an answer that is not want of memory is the one that is due
 due_answer : (w : ℕ) (h : List Entry) (call : EndCall) (answer : EndAnswer)
@@ -224,6 +219,40 @@ Makes-hear w side world now line command which old new r is legal before same to
     at outcome (Some out) found t =
         Makes-call w side world now line command (EndCall.Heard now (incoming_of out)) old new outcome
         (steps (Some out) found ∙ rw is refl) legal before t same
+
+-- a damaged emission is none
+hurt_emits : (side : Side) (place : ℕ) (emission : Option Outgoing) → encodings_in (outcome_of_hurt side place emission) ≡ []
+hurt_emits side place None = refl
+hurt_emits side place (Some out) =
+    let payload = (message_of (other side) out).payload in
+    let new = damaged payload place in
+    choice (nat_lt place (length payload)) (bytes_eq (sha256 payload) (sha256 new)) _
+  where
+    choice : (there same : Bool) (n : ℕ)
+        → encodings_in (cond there (cond same Outcome.Passed (Outcome.Refused n)) Outcome.Absent) ≡ []
+    choice true true n = refl
+    choice true false n = refl
+    choice false same n = refl
+
+-- a line with a damaged emission
+pub Makes-hurt : (w : ℕ) (side : Side) (world : List Event) (now line : ℕ) (command : Command) (which : Which) (place : ℕ)
+    (old new : Endpoint) (r : Result Outcome NoMemory)
+    → command ≡ Command.Hurt side which place
+    → IsEndpoint w side (history_of side world) old
+    → new.end ≡ old.end
+    → new.sent.items ≡ old.sent.items
+    → IfOk r (λ outcome. outcome
+    ≡ outcome_of_hurt side place (emission_at (emissions (history_of (other side) world)) which))
+    → IfOk r (Makes w side world now line command new)
+Makes-hurt w side world now line command which place old new r is before same sent told =
+    let emission = emission_at (emissions (history_of (other side) world)) which in
+    let step : Outcome → Step = λ o. record { line = line; verb = verb_of command; side = side; outcome = o; event = None } in
+    let steps : steps_of w world now line command ≡ step (outcome_of_hurt side place emission) ∷ [] = rw is refl in
+    IfOk-weaker r _ _
+    (λ outcome t.
+    Makes-quiet w side world now line command old new outcome (steps ∙ ap (λ o. step o ∷ []) (sym t)) before same sent
+    (ap encodings_in t ∙ hurt_emits side place emission))
+    told
 
 -- a new end that was opened
 pub IsEndpoint-opened : (w : ℕ) (side : Side) (fresh : EndState) (opened : EndState) (endpoint : Endpoint)

@@ -1,5 +1,5 @@
 -- The ends of the lab, and the world that they stand for.
-use Rattle.std.specs.Prelude.{◌≡◌, ℕ, Option, Some, None, List, [], ◌∷◌, ◌++◌, map, length}
+use Rattle.std.specs.Prelude.{◌≡◌, ℕ, Option, Some, None, List, [], ◌∷◌, ◌++◌, map}
 use Rattle.std.specs.List.{All, cons_option}
 use Rattle.agent_message.specs.Layout.{IsMessage}
 use Rattle.chan_io.specs.declared.side.Side.{Side}
@@ -17,16 +17,18 @@ use Rattle.channel_core.specs.Wire.{encoding, message_of}
 use Rattle.channel_core.specs.World.{Event, IsHonest, IsLegalWorld, history_of}
 use Rattle.lab_script.specs.Command.{verb_of}
 use Rattle.lab_script.specs.declared.command.Command.{Command}
-use Rattle.lab_script.specs.declared.command.Command.TheVariants as Command
 use Rattle.lab_script.specs.declared.outcome.Outcome.{Outcome}
-use Rattle.lab_script.specs.declared.outcome.Outcome.TheVariants as Outcome
 use Rattle.lab_cmd.specs.declared.endpoint.Endpoint.{Endpoint}
 use Rattle.lab_cmd.specs.declared.pair.Pair.{Pair}
-use Rattle.lab_cmd.specs.Run.{Step, outcome_of, steps_of}
+use Rattle.lab_cmd.specs.Run.{outcome_of, steps_of}
 
 -- a message of this side that has an encoding
 abbrev pub IsSendable : Side → Outgoing → Type 0
 IsSendable side out = IsEncodable out × IsMessage (message_of side out)
+
+-- all that the ends emitted in this world has an encoding
+abbrev pub AllSendable : List Event → Type 0
+AllSendable world = (side : Side) → All (IsSendable side) (emissions (history_of side world))
 
 -- a call found memory: the end answered it, and the outcome says that answer
 pub record IsCalled
@@ -55,6 +57,7 @@ side_of (Command.Pull side) = Some side
 side_of (Command.Tick side) = Some side
 side_of (Command.Close side) = Some side
 side_of (Command.Hear side which) = Some side
+side_of (Command.Hurt side which place) = Some side
 side_of (Command.Lost side) = Some side
 side_of (Command.Open side) = Some side
 side_of (Command.Pause side) = Some side

@@ -2,6 +2,10 @@
 use Rattle.std.specs.Prelude.{◌≡◌, ℕ, ◌+◌, ◌<◌, ◌≤◌, Option, Some, None, List, [], ◌++◌, length}
 use Rattle.chan_io.specs.Sources.{Input}
 
+-- the longest input in bytes
+abbrev pub max_input : ℕ
+max_input = 67108864
+
 -- these bytes were read, where the source tells
 abbrev pub ReadSome : List ℕ → Option Input → Option Input → Type 0
 ReadSome bytes None after = after ≡ None

@@ -1,20 +1,24 @@
 -- What a status says of the words, of what was read and of what was written.
-use Rattle.std.specs.Prelude.{◌≡◌, ℕ, ◌<◌, ◌≤◌, ◌⊎◌, Option, List, length}
+use Rattle.std.specs.Prelude.{◌≡◌, ◌≢◌, ℕ, ◌+◌, ◌*◌, ◌<◌, ◌≤◌, false, Option, Some, List, [], ◌∷◌, ◌++◌, length}
+use Rattle.std.specs.List.{AllPairs}
 use Rattle.chan_io.specs.declared.side.Side.{Side}
 use Rattle.chan_io.specs.Sides.{other}
 use Rattle.chan_io.specs.Sinks.{Output, Writes, WritesPart}
 use Rattle.chan_io.specs.Sources.{Input}
-use Rattle.channel_core.specs.History.{put_items, released_items}
+use Rattle.channel_core.specs.Arrival.{Answer, Arrives}
+use Rattle.channel_core.specs.declared.pulling.Outgoing.{Outgoing}
+use Rattle.channel_core.specs.Exchange.{IsExchange}
+use Rattle.channel_core.specs.History.{is_closed, put_items, released_items, taken_items}
 use Rattle.channel_core.specs.Laws.{IsPrefixOf}
-use Rattle.channel_core.specs.World.{Event, IsHonest, IsLegalWorld, history_of}
+use Rattle.channel_core.specs.Wire.{encoding, message_of}
+use Rattle.channel_core.specs.World.{IsHonest, IsLegalWorld, history_of}
 use Rattle.lab_script.specs.declared.command.Command.{Command}
 use Rattle.lab_script.specs.Lines.{lines_of}
-use Rattle.lab_cmd.specs.declared.input.TheConstants.{MAX_INPUT}
 use Rattle.lab_cmd.specs.declared.status.Status.{Status}
-use Rattle.lab_cmd.specs.declared.status.Status.TheVariants as Status
-use Rattle.lab_cmd.specs.Inputs.{ReadToEnd}
+use Rattle.lab_cmd.specs.Ends.{AllSendable, IsSendable}
+use Rattle.lab_cmd.specs.Inputs.{ReadToEnd, max_input}
 use Rattle.lab_cmd.specs.Report.{report}
-use Rattle.lab_cmd.specs.Run.{run}
+use Rattle.lab_cmd.specs.Run.{damaged, events_of, outcome_of_answer, outcome_of_hurt, payload_start, run, settle_lines, steps_at, steps_of, world_of}
 use Rattle.lab_cmd.specs.Script.{IsFirstBad, IsScript}
 use Rattle.lab_cmd.specs.Words.{IsWords, IsWordsFault}
 
@@ -24,7 +28,7 @@ pub record ReadsScript (words : List (List ℕ)) (before after : Option Input) :
   pub worded : IsWords window words
   pub input : List ℕ
   pub read : ReadToEnd input before after
-  pub short : length input ≤ MAX_INPUT
+  pub short : length input ≤ max_input
   pub commands : List Command
   pub script : IsScript commands input
 
@@ -34,14 +38,15 @@ pub record ReadsBadLine (n : ℕ) (words : List (List ℕ)) (before after : Opti
   pub worded : IsWords window words
   pub input : List ℕ
   pub read : ReadToEnd input before after
-  pub short : length input ≤ MAX_INPUT
+  pub short : length input ≤ max_input
   pub bad : IsFirstBad n (lines_of input)
 
--- a script was read, and the whole of its report was written
+-- a script was read, the whole of its report was written, and all that its ends emitted has an encoding
 abbrev pub Reports : List (List ℕ) → Option Input → Option Input → Option Output → Option Output → Type 0
 Reports words before after out_before out_after =
     (s : ReadsScript words before after)
     × Writes (report (run s.window s.commands)) out_before out_after
+    × AllSendable (world_of (run s.window s.commands))
 
 -- a script was read, and a prefix of its report was written
 abbrev pub ReportsPart :
@@ -54,17 +59,50 @@ ReportsPart words before after out_before out_after =
 abbrev pub IsDue : List (List ℕ) → List ℕ → Status → Type 0
 IsDue words left Status.Ok =
     (window : ℕ) × (commands : List Command)
-    × IsWords window words × (length left ≤ MAX_INPUT) × IsScript commands left
+    × IsWords window words × (length left ≤ max_input) × IsScript commands left
 IsDue words left (Status.Usage k) = IsWordsFault words k
 IsDue words left (Status.Script n) =
-    (window : ℕ) × IsWords window words × (length left ≤ MAX_INPUT) × IsFirstBad n (lines_of left)
-IsDue words left Status.TooLong = (window : ℕ) × IsWords window words × (MAX_INPUT < length left)
+    (window : ℕ) × IsWords window words × (length left ≤ max_input) × IsFirstBad n (lines_of left)
+IsDue words left Status.TooLong = (window : ℕ) × IsWords window words × (max_input < length left)
 IsDue words left status = ⊥
 
--- each end answered as it should and heard only what the other had emitted, and what it released is a
--- prefix of what the other end's user put in
-pub record IsFaithful (w : ℕ) (world : List Event) : Type 0 where
-  pub legal : IsLegalWorld w world
-  pub honest : IsHonest world
-  pub prefix : (side : Side)
+-- after these lines each end answered as it should, heard only what the other had emitted and took each
+-- number at most once, and what it released is a prefix of what the other end's user put in
+pub record IsFaithful (w : ℕ) (commands : List Command) : Type 0 where
+  pub legal : IsLegalWorld w (world_of (run w commands))
+  pub honest : IsHonest (world_of (run w commands))
+  pub once :
+      let world = world_of (run w commands) in
+      (side : Side) → AllPairs (λ p q. p.0 ≢ q.0) (taken_items (history_of side world))
+  pub prefix :
+      let world = world_of (run w commands) in
+      (side : Side)
       → IsPrefixOf (released_items (history_of side world)) (put_items (history_of (other side) world))
+  -- a script that goes on behind these lines begins with their steps
+  pub begins : (rest : List Command) → IsPrefixOf (run w commands) (run w (commands ++ rest))
+
+-- a settle behind these lines makes an exchange without a loss, and its steps are those of the lines
+-- that it stands for; where neither end is closed then, each has released all that the other put in
+pub record IsSettled (w : ℕ) (commands : List Command) : Type 0 where
+  pub exchange : (now line : ℕ)
+      → IsExchange (events_of (steps_of w (world_of (run w commands)) now line Command.Settle))
+  -- an end emits at most two messages for each place of its window
+  pub lines : (now line : ℕ)
+      → let world = world_of (run w commands) in
+      (n : ℕ) × (m : ℕ) × (n ≤ 2 * w) × (m ≤ 2 * w)
+      × (steps_of w world now line Command.Settle ≡ steps_at w world now line (settle_lines n m))
+  pub released :
+      let world = world_of (run w (commands ++ Command.Settle ∷ [])) in
+      ((end : Side) → is_closed (history_of end world) ≡ false)
+      → (side : Side)
+      → released_items (history_of (other side) world) ≡ put_items (history_of side world)
+
+-- where a message comes to a side with a byte of its payload changed, `hurt` reports what the side answers
+-- to these bytes
+abbrev pub HurtTellsIncoming : Type 0
+HurtTellsIncoming =
+    (side : Side) (place : ℕ) (out : Outgoing) (answer : Answer)
+    → IsSendable (other side) out
+    → place < length (message_of (other side) out).payload
+    → Arrives side (damaged (encoding (other side) out) (payload_start + place)) answer
+    → outcome_of_hurt side place (Some out) ≡ outcome_of_answer answer

@@ -1,39 +1,32 @@
 -- What a script does at the two ends: the steps that it makes, one for each line of the report.
-use Rattle.std.specs.Prelude.{◌≡◌, ℕ, ◌+◌, ◌-◌, ◌<◌, Option, Some, None, List, [], ◌∷◌, ◌++◌, length, slice_get, replicate}
+use Rattle.std.specs.Prelude.{ℕ, ◌+◌, ◌*◌, ◌-◌, zero, suc, Bool, true, false, if◌then◌else◌, nat_lt, Option, Some, None, List, [], ◌∷◌, ◌++◌, length, slice_get, slice_index, slice_set, bit_xor, replicate, Result, Ok, Err}
 use Rattle.std.specs.Int.{w64, to_be_bytes}
 use Rattle.std.specs.List.{filter_map, fold}
-use Rattle.agent_message.specs.declared.item.Item.{Item}
+use Rattle.std.specs.Str.{bytes_eq}
+use Rattle.agent_message.specs.Refusals.{number_of}
+use Rattle.agent_message.specs.Sha256.{sha256}
+use Rattle.agent_message.specs.declared.refusal.Refusal.TheVariants.{Digest}
 use Rattle.chan_io.specs.declared.side.Side.{Side}
 use Rattle.chan_io.specs.declared.side.Side.TheVariants.{Plugin, Agent}
 use Rattle.chan_io.specs.Sides.{other}
 use Rattle.channel_core.specs.declared.call.EndAnswer.{EndAnswer}
-use Rattle.channel_core.specs.declared.call.EndAnswer.TheVariants as EndAnswer
 use Rattle.channel_core.specs.declared.call.EndCall.{EndCall}
-use Rattle.channel_core.specs.declared.call.EndCall.TheVariants as EndCall
 use Rattle.channel_core.specs.declared.hearing.Heard.{Heard}
-use Rattle.channel_core.specs.declared.hearing.Heard.TheVariants as Heard
-use Rattle.channel_core.specs.declared.hearing.Incoming.TheVariants as Incoming
+use Rattle.channel_core.specs.declared.hearing.Incoming.{Incoming}
 use Rattle.channel_core.specs.declared.pulling.Outgoing.{Outgoing}
 use Rattle.channel_core.specs.declared.pulling.Pull.{Pull}
-use Rattle.channel_core.specs.declared.pulling.Pull.TheVariants as Pull
 use Rattle.channel_core.specs.declared.put.Put.{Put}
-use Rattle.channel_core.specs.declared.put.Put.TheVariants as Put
 use Rattle.channel_core.specs.declared.tick.Tick.{Tick}
-use Rattle.channel_core.specs.declared.tick.Tick.TheVariants as Tick
-use Rattle.channel_core.specs.Call.{Entry}
+use Rattle.channel_core.specs.declared.wire.refusal.InRefusal.{InRefusal}
 use Rattle.channel_core.specs.Exchange.{incoming_of, opening}
 use Rattle.channel_core.specs.History.{emissions}
 use Rattle.channel_core.specs.Legal.{answer_to}
-use Rattle.channel_core.specs.Wire.{encoding}
+use Rattle.channel_core.specs.Wire.{encoding, message_of}
 use Rattle.channel_core.specs.World.{Event, history_of}
 use Rattle.lab_script.specs.declared.command.Command.{Command}
-use Rattle.lab_script.specs.declared.command.Command.TheVariants as Command
 use Rattle.lab_script.specs.declared.outcome.Outcome.{Outcome}
-use Rattle.lab_script.specs.declared.outcome.Outcome.TheVariants as Outcome
 use Rattle.lab_script.specs.declared.verb.Verb.{Verb}
-use Rattle.lab_script.specs.declared.verb.Verb.TheVariants as Verb
 use Rattle.lab_script.specs.declared.which.Which.{Which}
-use Rattle.lab_script.specs.declared.which.Which.TheVariants as Which
 
 -- what was done at an end, and what came of it
 pub record Step : Type 0 where
@@ -128,6 +121,81 @@ heard_at w world now line side None =
 heard_at w world now line side (Some out) =
     called w world line Verb.Hear side (EndCall.Heard now (incoming_of out))
 
+-- where the payload of an encoded message begins
+abbrev pub payload_start : ℕ
+payload_start = 120
+
+-- the bytes with the one at this place changed by exclusive or with 1
+abbrev pub damaged : List ℕ → ℕ → List ℕ
+damaged bytes place = slice_set bytes place (bit_xor (slice_index bytes place) 1)
+
+-- what is reported of bytes that are not heard. What is wrong inside of a whole message is not told.
+abbrev pub outcome_of_refusal : InRefusal → Outcome
+outcome_of_refusal (InRefusal.Message refusal) = Outcome.Refused (number_of refusal)
+outcome_of_refusal refusal = Outcome.Passed
+
+-- what is reported of a side's answer to bytes
+abbrev pub outcome_of_answer : Result Incoming InRefusal → Outcome
+outcome_of_answer (Ok incoming) = Outcome.Passed
+outcome_of_answer (Err refusal) = outcome_of_refusal refusal
+
+-- what is reported of a message that has a new payload and the digest of its old one
+abbrev pub outcome_of_change : List ℕ → List ℕ → Outcome
+outcome_of_change old new =
+    let said = sha256 old in
+    let computed = sha256 new in
+    (if bytes_eq said computed
+    then Outcome.Passed
+    else outcome_of_refusal (InRefusal.Message (Digest said computed)))
+
+-- what is reported of an emission with a damaged byte of its payload, if there are both
+abbrev pub outcome_of_hurt : Side → ℕ → Option Outgoing → Outcome
+outcome_of_hurt side place None = Outcome.Absent
+outcome_of_hurt side place (Some out) =
+    let payload = (message_of (other side) out).payload in
+    (if nat_lt place (length payload)
+    then outcome_of_change payload (damaged payload place)
+    else Outcome.Absent)
+
+-- a damaged emission comes to a side. Its end is not called.
+abbrev pub hurt_at : ℕ → Side → ℕ → Option Outgoing → Step
+hurt_at line side place emission =
+    record {
+      line = line;
+      verb = Verb.Hurt;
+      side = side;
+      outcome = outcome_of_hurt side place emission;
+      event = None;
+    }
+
+-- whether this is an emission
+abbrev pub is_emission : Outcome → Bool
+is_emission (Outcome.Emit number encoding) = true
+is_emission outcome = false
+
+-- this end is pulled until it is idle, n times at most, and the other hears each emission at once
+unfoldable pub pass_steps : ℕ → ℕ → List Event → ℕ → ℕ → Side → List Step
+pass_steps zero w world now line side = []
+pass_steps (suc n) w world now line side =
+    let pulled = called w world line Verb.Pull side (EndCall.Pull now) in
+    let one = world ++ events_of (pulled ∷ []) in
+    let sent = emissions (history_of side one) in
+    let heard = heard_at w one now line (other side) (emission_at sent Which.Last) in
+    let two = one ++ events_of (heard ∷ []) in
+    pulled
+    ∷ (if is_emission pulled.outcome then heard ∷ pass_steps n w two now line side else [])
+
+-- both ends are connected again, then the plugin sends all that it has, and then the agent
+abbrev pub settle_steps : ℕ → List Event → ℕ → ℕ → List Step
+settle_steps w world now line =
+    let plugin = called w world line Verb.Open Plugin (EndCall.Opened now) in
+    let one = world ++ events_of (plugin ∷ []) in
+    let agent = called w one line Verb.Open Agent (EndCall.Opened now) in
+    let two = one ++ events_of (agent ∷ []) in
+    let to_agent = pass_steps (2 * w + 1) w two now line Plugin in
+    let to_plugin = pass_steps (2 * w + 1) w (two ++ events_of to_agent) now line Agent in
+    plugin ∷ agent ∷ (to_agent ++ to_plugin)
+
 -- The steps of one line, by its number, at this moment, after this world. A line that sets the moment
 -- makes none; nor does a verb that is out of the grammar.
 abbrev pub steps_of : ℕ → List Event → ℕ → ℕ → Command → List Step
@@ -143,7 +211,9 @@ steps_of w world now line (Command.Close side) =
 steps_of w world now line (Command.Hear side which) =
     let sent = emissions (history_of (other side) world) in
     heard_at w world now line side (emission_at sent which) ∷ []
-steps_of w world now line (Command.Hurt side which place) = []
+steps_of w world now line (Command.Hurt side which place) =
+    let sent = emissions (history_of (other side) world) in
+    hurt_at line side place (emission_at sent which) ∷ []
 steps_of w world now line (Command.Lost side) =
     called w world line Verb.Lost side EndCall.Lost ∷ []
 steps_of w world now line (Command.Open side) =
@@ -154,7 +224,25 @@ steps_of w world now line (Command.Start side) =
     called w world line Verb.Start side (EndCall.Heard now Incoming.Start) ∷ []
 steps_of w world now line (Command.End side) =
     called w world line Verb.End side (EndCall.Heard now (Incoming.Closing [])) ∷ []
-steps_of w world now line Command.Settle = []
+steps_of w world now line Command.Settle = settle_steps w world now line
+
+-- the steps of these lines one after the other, all at this moment and with this line number
+abbrev pub steps_at : ℕ → List Event → ℕ → ℕ → List Command → List Step
+steps_at w world now line [] = []
+steps_at w world now line (command ∷ commands) =
+    let steps = steps_of w world now line command in
+    steps ++ steps_at w (world ++ events_of steps) now line commands
+
+-- n times this end is pulled and the other hears what it emitted last; then it is pulled once more
+abbrev pub pass_lines : Side → ℕ → List Command
+pass_lines side zero = Command.Pull side ∷ []
+pass_lines side (suc n) =
+    Command.Pull side ∷ Command.Hear (other side) Which.Last ∷ pass_lines side n
+
+-- the lines that a settle stands for where the plugin emits n messages and the agent m
+abbrev pub settle_lines : ℕ → ℕ → List Command
+settle_lines n m =
+    Command.Open Plugin ∷ Command.Open Agent ∷ (pass_lines Plugin n ++ pass_lines Agent m)
 
 -- the moment after a line
 abbrev pub moment_after : ℕ → Command → ℕ

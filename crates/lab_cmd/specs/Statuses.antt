@@ -1,7 +1,6 @@
 -- The number and the text of a status.
 use Rattle.std.specs.Prelude.{ℕ, List, ◌++◌, codes, decimal}
 use Rattle.lab_cmd.specs.declared.status.Status.{Status}
-use Rattle.lab_cmd.specs.declared.status.Status.TheVariants as Status
 
 -- the exit status of the program
 abbrev pub number_of : Status → ℕ

@@ -5,10 +5,10 @@ ghost use Rattle.chan_io.specs.Sides.{other};
 ghost use Rattle.channel_core.specs.declared.hearing.Incoming.TheVariants as Incoming;
 ghost use Rattle.channel_core.specs.Exchange.{opening};
 ghost use Rattle.channel_core.specs.World.{Event, IsLegalWorld, history_of};
+ghost use Rattle.lab_script.specs.Command.{IsCommand};
 ghost use Rattle.lab_cmd.specs.Ends.{IsEndpoint, Makes, encodings_in, side_of};
-ghost use Rattle.lab_cmd.specs.Script.{IsLabCommand};
 
-use crate::hearing::hear;
+use crate::hearing::{hear, hurt};
 use crate::verbs::{close, connect, disconnect, hear_message, pull, put, tick};
 use chan_io::{Bytes, NoMemory, Side, Text};
 use channel_core::{End, Incoming};
@@ -47,7 +47,7 @@ impl Endpoint {
         line: u64,
         now: u64,
     ) -> Result<Outcome, NoMemory>
-        requires in_range { IsLabCommand command }
+        requires in_range { IsCommand command }
         requires here { side_of command ≡ Some side }
         ensures { (w : ℕ) (world : List Event)
             → IsLegalWorld w world
@@ -73,12 +73,13 @@ impl Endpoint {
                     now,
                 )
             }
+            Command::Hurt { which, place, .. } => hurt(alloc, side, &there.sent, which, place),
             Command::Lost { .. } => Ok(disconnect(&mut self.end)),
             Command::Open { .. } => Ok(connect(&mut self.end, now)),
             Command::Pause { .. } => hear_message(&mut self.end, Incoming::Pause, now),
             Command::Start { .. } => hear_message(&mut self.end, Incoming::Start, now),
             Command::End { .. } => hear_message(&mut self.end, closing(alloc), now),
-            Command::At { .. } | Command::Hurt { .. } | Command::Settle => unreachable!(),
+            Command::At { .. } | Command::Settle => unreachable!(),
         }
     }
 

@@ -2,7 +2,7 @@
 
 ghost use Rattle.std.specs.Prelude.{◌≡◌, ◌+◌, ◌<◌, ◌≤◌, IfOk, IfErr, length};
 ghost use Rattle.chan_io.specs.Faults.{Rises};
-ghost use Rattle.lab_cmd.specs.Inputs.{ReadToEnd, ReadSome, IsLonger, GivesAtMost};
+ghost use Rattle.lab_cmd.specs.Inputs.{ReadToEnd, ReadSome, IsLonger, GivesAtMost, max_input};
 
 use chan_io::{Failed, Source};
 use std::alloc::{AllocError, Global};
@@ -48,11 +48,13 @@ impl From<AllocError> for InputFault {
 
 /// Reads the source to its end, and one byte past the longest input at most.
 pub fn read_input<S: Source>(alloc: Global, source: &mut S) -> Result<Vec<u8>, InputFault>
-    ensures whole { IfOk result (λ input. ReadToEnd input.items (S.input source.old) (S.input source.new)) }
-    ensures short { IfOk result (λ input. length input.items ≤ MAX_INPUT) }
-    ensures long { result ≡ Err InputFault.TooLong → IsLonger MAX_INPUT (S.input source.old) }
-    ensures failed { result ≡ Err InputFault.Read → Rises (S.faults source.old) (S.faults source.new) }
-    ensures bounded { GivesAtMost (MAX_INPUT + 1) (S.input source.old) (S.input source.new) }
+    ensures whole { IfOk result (λ input.
+        ReadToEnd input.items (S.input source.old) (S.input source.new)) }
+    ensures short { IfOk result (λ input. length input.items ≤ max_input) }
+    ensures long { result ≡ Err InputFault.TooLong → IsLonger max_input (S.input source.old) }
+    ensures failed { result ≡ Err InputFault.Read
+        → Rises (S.faults source.old) (S.faults source.new) }
+    ensures bounded { GivesAtMost (max_input + 1) (S.input source.old) (S.input source.new) }
     ensures counted { S.faults source.old ≤ S.faults source.new }
 {
     let mut input = Vec::new(alloc);

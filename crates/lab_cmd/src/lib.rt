@@ -10,6 +10,7 @@ mod pair;
 mod printer;
 mod run;
 mod script;
+mod settling;
 mod status;
 mod stop;
 #[cfg(test)]

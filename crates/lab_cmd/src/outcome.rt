@@ -1,9 +1,9 @@
 //! What is reported of an answer.
 
-ghost use Rattle.std.specs.Prelude.{◌≡◌, ◌≢◌, IfOk, IsErr};
+ghost use Rattle.std.specs.Prelude.{◌≡◌, ◌≢◌, IfOk};
 ghost use Rattle.channel_core.specs.declared.hearing.Incoming.{Incoming};
 ghost use Rattle.channel_core.specs.declared.hearing.Heard.TheVariants as Heard;
-ghost use Rattle.lab_cmd.specs.Run.{outcome_of_heard};
+ghost use Rattle.lab_cmd.specs.Run.{is_emission, outcome_of_heard, outcome_of_refusal};
 
 use chan_io::NoMemory;
 use channel_core::Heard;
@@ -32,11 +32,22 @@ pub fn outcome_of_heard(heard: Heard) -> Result<Outcome, NoMemory>
 /// What is reported of bytes that are no message to the end. What is wrong inside of a whole message is
 /// not told.
 pub fn outcome_of_refusal(refusal: InRefusal) -> Result<Outcome, NoMemory>
-    ensures { refusal ≡ InRefusal.NoMemory → IsErr result }
+    ensures { IfOk result (λ outcome. (outcome ≡ outcome_of_refusal refusal)
+        × (refusal ≢ InRefusal.NoMemory)) }
 {
     match refusal {
         InRefusal::Message(refusal) => Ok(Outcome::Refused(u64::from(refusal.number()))),
         InRefusal::NoMemory => Err(NoMemory),
         _ => Ok(Outcome::Passed),
+    }
+}
+
+/// Whether this is an emission.
+pub fn is_emission(outcome: &Outcome) -> bool
+    ensures { result ≡ is_emission outcome.now }
+{
+    match outcome {
+        Outcome::Emit { .. } => true,
+        _ => false,
     }
 }

@@ -1,17 +1,18 @@
 //! The two ends of the lab.
 
-ghost use Rattle.std.specs.Prelude.{◌≡◌, ◌≤◌, ◌++◌, ℕ, List, Option, Some, IfOk, OnOk, OnErr, Err};
+ghost use Rattle.std.specs.Prelude.{◌≡◌, ◌≤◌, ◌++◌, ◌∷◌, [], ℕ, List, Option, Some, IfOk, OnOk, OnErr, Err};
 ghost use Rattle.chan_io.specs.Faults.{Rises};
 ghost use Rattle.chan_io.specs.Sinks.{Output, WritesPart};
 ghost use Rattle.channel_core.specs.World.{Event};
 ghost use Rattle.lab_script.specs.declared.command.Command.{Command};
+ghost use Rattle.lab_script.specs.Command.{IsCommand};
 ghost use Rattle.lab_cmd.specs.Ends.{IsPair, PairMakes, side_of};
 ghost use Rattle.lab_cmd.specs.Printing.{IsPrinted};
 ghost use Rattle.lab_cmd.specs.Report.{report};
-ghost use Rattle.lab_cmd.specs.Script.{IsLabCommand};
-ghost use Rattle.lab_cmd.specs.Run.{events_of, start, steps_of};
+ghost use Rattle.lab_cmd.specs.Run.{Step, events_of, is_emission, start, steps_of};
 
 use crate::endpoint::Endpoint;
+use crate::outcome::is_emission;
 use crate::printer::Printer;
 use crate::stop::Stop;
 use chan_io::{NoMemory, Side, Sink};
@@ -38,7 +39,7 @@ impl Pair {
         })
     }
 
-    /// Does what a command asks of one end, and reports it.
+    /// Does what a command asks of one end, and reports it. Answers whether it was an emission.
     pub fn step<K: Sink>(
         &mut self,
         alloc: Global,
@@ -48,9 +49,12 @@ impl Pair {
         now: u64,
         printer: &mut Printer,
         sink: &mut K,
-    ) -> Result<(), Stop>
-        requires in_range { IsLabCommand command }
+    ) -> Result<bool, Stop>
+        requires in_range { IsCommand command }
         requires here { side_of command ≡ Some side }
+        ensures told { (w : ℕ) (world : List Event) (s : Step) → IsPair w world self.old
+            → steps_of w world now line command ≡ s ∷ []
+            → IfOk result (λ emitted. emitted ≡ is_emission s.outcome) }
         ensures made { (w : ℕ) (world : List Event) → IsPair w world self.old
             → OnOk result (IsPair w (world ++ events_of (steps_of w world now line command)) self.new) }
         ensures ok { (w : ℕ) (world : List Event) (before : Option Output) (done : List ℕ)
@@ -69,8 +73,9 @@ impl Pair {
         let verb = command.verb();
         let outcome = self.act(alloc, side, command, line, now)?;
         printer.line(sink, line, verb, side, &outcome)?;
+        let emitted = is_emission(&outcome);
         self.keep(side, outcome)?;
-        Ok(())
+        Ok(emitted)
     }
 
     /// Does what a command asks of one end.
@@ -82,7 +87,7 @@ impl Pair {
         line: u64,
         now: u64,
     ) -> Result<Outcome, NoMemory>
-        requires in_range { IsLabCommand command }
+        requires in_range { IsCommand command }
         requires here { side_of command ≡ Some side }
         ensures { (w : ℕ) (world : List Event) → IsPair w world self.old
             → IfOk result (PairMakes w side world now line command self.new) }

@@ -1,9 +1,8 @@
 //! A script: the commands of its lines.
 
-ghost use Rattle.std.specs.Prelude.{◌≡◌, ℕ, IfOk, IfSome, IfNone, Err};
+ghost use Rattle.std.specs.Prelude.{◌≡◌, ℕ, IfOk, Err};
 ghost use Rattle.lab_script.specs.Lines.{lines_of};
-ghost use Rattle.lab_script.specs.Command.{Says};
-ghost use Rattle.lab_cmd.specs.Script.{IsBuilt, IsFirstBad, IsLabLine, IsScript};
+ghost use Rattle.lab_cmd.specs.Script.{IsFirstBad, IsScript};
 
 use chan_io::NoMemory;
 use lab_script::{Command, Lines, parse};
@@ -47,22 +46,10 @@ pub fn read_script(alloc: Global, input: &[u8]) -> Result<Vec<Command>, ScriptFa
 {
     let mut commands = Vec::new(alloc);
     for line in Lines::new(input) {
-        match read_command(alloc, line)? {
+        match parse(alloc, line)? {
             Some(command) => commands.push(command)?,
             None => return Err(ScriptFault::Line(commands.len() as u64 + 1)),
         }
     }
     Ok(commands)
-}
-
-/// The command that a line says, if the lab does it.
-fn read_command(alloc: Global, line: &[u8]) -> Result<Option<Command>, NoMemory>
-    ensures found { IfOk result (λ read.
-        IfSome read (λ command. Says line.now command × IsBuilt command)) }
-    ensures none { IfOk result (λ read. IfNone read (¬ IsLabLine line.now)) }
-{
-    match parse(alloc, line)? {
-        Some(Command::Hurt { .. }) | Some(Command::Settle) => Ok(None),
-        read => Ok(read),
-    }
 }

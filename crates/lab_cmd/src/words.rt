@@ -1,17 +1,46 @@
 //! The words behind the program's name.
 
-ghost use Rattle.std.specs.Prelude.{IfOk, IfErr};
-ghost use Rattle.lab_cmd.specs.Words.{IsWords, IsWordsFault};
+ghost use Rattle.std.specs.Prelude.{◌≡◌, ◌≢◌, ℕ, IfOk, IfErr, IfSome, IfNone, decimal};
+ghost use Rattle.lab_cmd.specs.Words.{IsWindow, IsWords, IsWordsFault};
 
 use chan_io::Word;
+use lab_script::read_number;
 
 /// The window of both ends where no word says another.
-const WINDOW: u64 = 10_000;
+const DEFAULT_WINDOW: u64 = 10_000;
+
+/// The longest window.
+const MAX_WINDOW: u64 = 10_000;
 
 /// The window that the words ask for, or the number of words that still begin a command line.
 pub fn read_words(words: &[Word]) -> Result<u64, u64>
     ensures window { IfOk result (λ window. IsWords window words.now) }
     ensures fault { IfErr result (λ k. IsWordsFault words.now k) }
 {
-    if words.is_empty() { Ok(WINDOW) } else { Err(0) }
+    let Some((option, operands)) = words.split_first() else {
+        return Ok(DEFAULT_WINDOW);
+    };
+    if option.as_str() != "--window" {
+        return Err(0);
+    }
+    let Some((number, more)) = operands.split_first() else {
+        return Err(1);
+    };
+    match read_window(number) {
+        None => Err(1),
+        Some(window) if more.is_empty() => Ok(window),
+        Some(_) => Err(2),
+    }
+}
+
+/// The window that a word says.
+fn read_window(word: &Word) -> Option<u64>
+    ensures found { IfSome result (λ n. IsWindow n × (decimal n ≡ word.now)) }
+    ensures none { IfNone result ((n : ℕ) → IsWindow n → decimal n ≢ word.now) }
+{
+    let window = read_number(word.as_str().as_bytes())?;
+    if window == 0 || window > MAX_WINDOW {
+        return None;
+    }
+    Some(window)
 }

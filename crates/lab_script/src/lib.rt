@@ -21,6 +21,7 @@ pub use command::Command;
 pub use grammar::parse;
 pub use laws::a_line_says_one_command;
 pub use lines::Lines;
+pub use number::read_number;
 pub use outcome::Outcome;
 pub use report::push_line;
 pub use verb::Verb;

@@ -20,7 +20,7 @@ pub enum Outcome {
     Idle,
     /// These items are in order now.
     Released(Items),
-    /// The message was heard before.
+    /// The message was taken before.
     Late,
     /// The message is outside the receive window.
     Beyond,
@@ -40,9 +40,9 @@ pub enum Outcome {
     Absent,
     /// The message was refused, with the number of the refusal.
     Refused(u64),
-    /// The damaged message was taken.
+    /// The digest of the damaged message is right; no end was called.
     Passed,
-    /// No message is due.
+    /// No timer expired.
     Nothing,
     /// The message of this number is due again.
     Due(u64),

@@ -1,9 +1,8 @@
-use Rattle.std.proofs.Common.{◌≡◌, ◌⊎◌, ⊎_elim, ℕ, Ok, Err, refl, sym, subst, ◌∙◌}
+use Rattle.std.proofs.Common.{◌≡◌, ⊎_elim, ◌∙◌}
 use Rattle.chan_io.specs.Sides.{other}
-use Rattle.channel_core.specs.declared.hearing.Incoming.{Incoming}
 use Rattle.channel_core.specs.Exchange.{incoming_of}
 use Rattle.channel_core.specs.declared.wire.refusal.InRefusal.TheVariants as InRefusal
-use Rattle.std.proofs.lemmas.Result.{IfOk-from_err}
+use Rattle.std.proofs.lemmas.Result.{IfOk-weaker}
 use Rattle.lab_cmd.proofs.EmissionLemmas.{IsEmission, IsEmission-found}
 use Rattle.lab_cmd.proofs.hearing.hear.Goals as goal
 
@@ -25,4 +24,4 @@ returns-in-Err c k emitted sent sendable =
     let inverse = c.in-Err.ensures.inverse e.out e.sendable.0 e.sendable.1 (c.as_slice.ensures ∙ e.encoded) in
     let memory : c.in-Err.refusal ≡ InRefusal.NoMemory =
     ⊎_elim (λ is. cc) (λ is. cc) inverse in
-    IfOk-from_err c.outcome_of_refusal.result _ (c.outcome_of_refusal.ensures memory)
+    IfOk-weaker c.outcome_of_refusal.result _ _ (λ outcome told. absurd (told.1 memory)) c.outcome_of_refusal.ensures

@@ -1,14 +1,13 @@
-use Rattle.std.proofs.Common.{◌≡◌, ◌<◌, ◌⊎◌, inl, inr, ℕ, List, length, Some, Err, refl, sym, ap, subst, ◌∙◌}
-use Rattle.chan_io.specs.Sources.{Input}
+use Rattle.std.proofs.Common.{◌≡◌, inl, inr, Err, ap, subst}
 use Rattle.lab_cmd.specs.declared.status.Status.{Status}
-use Rattle.lab_cmd.specs.declared.status.Status.TheVariants as Status
-use Rattle.lab_cmd.specs.Inputs.{IsLonger, ReadToEnd}
-use Rattle.lab_cmd.specs.Meanings.{IsDue, ReadsScript}
+use Rattle.lab_cmd.specs.Meanings.{ReadsScript}
 use Rattle.lab_cmd.specs.Script.{IsFirstBad, IsScript}
+use Rattle.lab_cmd.specs.Words.{IsWordsFault}
 use Rattle.lab_script.specs.Lines.{lines_of}
-use Rattle.lab_cmd.proofs.DueLemmas.{IsDue-unique}
+use Rattle.lab_cmd.proofs.DamageLemmas.{hurt_tells_incoming}
+use Rattle.lab_cmd.proofs.DueLemmas.{IsDue-unique, IsWordsFault-unique}
 use Rattle.lab_cmd.proofs.MeaningLemmas.{left_from_read, longer_from_told}
-use Rattle.lab_cmd.proofs.RunLemmas.{run_is_faithful}
+use Rattle.lab_cmd.proofs.RunLemmas.{run_is_faithful, run_is_settled}
 use Rattle.lab_cmd.proofs.laboratory.lab.Goals as goal
 
 pub returns-in-Err-clause-prefix : goal.returns-in-Err-clause-prefix
@@ -37,6 +36,67 @@ returns-in-Err-Write-clause-prefix g c = run_is_faithful
 
 pub returns-clause-prefix : goal.returns-clause-prefix
 returns-clause-prefix g c = run_is_faithful
+
+pub returns-in-Err-clause-settled : goal.returns-in-Err-clause-settled
+returns-in-Err-clause-settled g c = run_is_settled
+
+pub returns-in-Err-Read-clause-settled : goal.returns-in-Err-Read-clause-settled
+returns-in-Err-Read-clause-settled g c = run_is_settled
+
+pub returns-in-Err-TooLong-clause-settled : goal.returns-in-Err-TooLong-clause-settled
+returns-in-Err-TooLong-clause-settled g c = run_is_settled
+
+pub returns-in-Err-NoMemory-clause-settled : goal.returns-in-Err-NoMemory-clause-settled
+returns-in-Err-NoMemory-clause-settled g c = run_is_settled
+
+pub returns-in-Err-Line-clause-settled : goal.returns-in-Err-Line-clause-settled
+returns-in-Err-Line-clause-settled g c = run_is_settled
+
+pub returns-in-Err-NoMemory-read_script-clause-settled : goal.returns-in-Err-NoMemory-read_script-clause-settled
+returns-in-Err-NoMemory-read_script-clause-settled g c = run_is_settled
+
+pub returns-in-Ok-run-clause-settled : goal.returns-in-Ok-run-clause-settled
+returns-in-Ok-run-clause-settled g c = run_is_settled
+
+pub returns-in-Err-Write-clause-settled : goal.returns-in-Err-Write-clause-settled
+returns-in-Err-Write-clause-settled g c = run_is_settled
+
+pub returns-clause-settled : goal.returns-clause-settled
+returns-clause-settled g c = run_is_settled
+
+pub returns-in-Err-clause-hurt : goal.returns-in-Err-clause-hurt
+returns-in-Err-clause-hurt g c = hurt_tells_incoming
+
+pub returns-in-Err-Read-clause-hurt : goal.returns-in-Err-Read-clause-hurt
+returns-in-Err-Read-clause-hurt g c = hurt_tells_incoming
+
+pub returns-in-Err-TooLong-clause-hurt : goal.returns-in-Err-TooLong-clause-hurt
+returns-in-Err-TooLong-clause-hurt g c = hurt_tells_incoming
+
+pub returns-in-Err-NoMemory-clause-hurt : goal.returns-in-Err-NoMemory-clause-hurt
+returns-in-Err-NoMemory-clause-hurt g c = hurt_tells_incoming
+
+pub returns-in-Err-Line-clause-hurt : goal.returns-in-Err-Line-clause-hurt
+returns-in-Err-Line-clause-hurt g c = hurt_tells_incoming
+
+pub returns-in-Err-NoMemory-read_script-clause-hurt : goal.returns-in-Err-NoMemory-read_script-clause-hurt
+returns-in-Err-NoMemory-read_script-clause-hurt g c = hurt_tells_incoming
+
+pub returns-in-Ok-run-clause-hurt : goal.returns-in-Ok-run-clause-hurt
+returns-in-Ok-run-clause-hurt g c = hurt_tells_incoming
+
+pub returns-in-Err-Write-clause-hurt : goal.returns-in-Err-Write-clause-hurt
+returns-in-Err-Write-clause-hurt g c = hurt_tells_incoming
+
+pub returns-clause-hurt : goal.returns-clause-hurt
+returns-clause-hurt g c = hurt_tells_incoming
+
+pub returns-in-Err-clause-usage : goal.returns-in-Err-clause-usage
+returns-in-Err-clause-usage g c k =
+    let words = c.args.words.now in (
+      λ is. let same : c.in-Err.k ≡ k = cc in subst (IsWordsFault words) same c.in-Err.ensures.fault,
+      λ fault. ap Status.Usage (IsWordsFault-unique words c.in-Err.k k c.in-Err.ensures.fault fault),
+    )
 
 pub returns-in-Err-Read-clause-usage : goal.returns-in-Err-Read-clause-usage
 returns-in-Err-Read-clause-usage g c k = (λ is. absurd (cc), λ fault. absurd (fault.none c.in-Ok.window c.in-Ok.ensures.window))
@@ -103,7 +163,7 @@ returns-in-Ok-run-clause-ok g c is =
       commands = c.in-Ok-read_script.commands.items;
       script = rw (← c.deref.ensures.value) c.in-Ok-read_script.ensures.script;
     } in
-    (reads, c.in-Ok-run.ensures.ok)
+    (reads, c.in-Ok-run.ensures.ok, c.in-Ok-run.ensures.sendable)
 
 pub returns-in-Err-Write-clause-write_fault : goal.returns-in-Err-Write-clause-write_fault
 returns-in-Err-Write-clause-write_fault g c is =

@@ -1,14 +1,16 @@
-use Rattle.std.proofs.Common.{◌≡◌, ℕ, ◌+◌, ◌≤◌, List, [], ◌∷◌, ◌++◌, Some, OnErr, length, refl, sym, ap, subst, ◌∙◌, append_assoc, append-nil, length-append, arith}
+use Rattle.std.proofs.Common.{◌≡◌, ℕ, ◌+◌, List, [], ◌∷◌, ◌++◌, length, refl, sym, ap, subst, ◌∙◌, append_assoc, append-nil, length-append, arith}
+use Rattle.std.proofs.lemmas.List.{nil_from_length}
 use Rattle.std.proofs.lemmas.Result.{err_from_is_err_and, on_ok_weaker}
 use Rattle.std.specs.Vec.Iter.{into_iter_items}
 use Rattle.chan_io.specs.Sinks.{Writes, WritesPart}
 use Rattle.channel_core.specs.World.{Event}
 use Rattle.lab_script.specs.declared.command.Command.{Command}
-use Rattle.lab_cmd.specs.Ends.{IsPair}
+use Rattle.lab_cmd.specs.Ends.{AllSendable, IsPair}
 use Rattle.lab_cmd.specs.Printing.{IsPrinted}
 use Rattle.lab_cmd.specs.Report.{report}
-use Rattle.lab_cmd.specs.Run.{events_of, moment_after, progress, run, start, steps_of, world_of}
-use Rattle.lab_cmd.proofs.RunLemmas.{empty_list, now-none, progress-push, report-append, report-run-none, run-front, run-push, world_of-append, world_of-none}
+use Rattle.lab_cmd.specs.Run.{moment_after, run, steps_of, world_of}
+use Rattle.lab_cmd.proofs.PairLemmas.{AllSendable-IsPair}
+use Rattle.lab_cmd.proofs.RunLemmas.{now-none, progress-push, report-append, report-run-none, run-front, run-push, world_of-append, world_of-none}
 use Rattle.lab_cmd.proofs.WritingLemmas.{IsPrinted-nothing, WritesPart-longer}
 use Rattle.lab_cmd.proofs.run.run.Goals as goal
 
@@ -50,12 +52,12 @@ loop-command-preserved g c =
           ∙ sym (ap (λ p. p.now) (progress-push w xs command));
       pair =
           let P : List Event → Type 0 = λ x. IsPair w x c.follow.new.pair in
-          subst P (sym (ap world_of push ∙ world_of-append (run w xs) steps)) (c.in_ok-follow.ensures.made w world inv.pair);
+          subst P (sym (ap world_of push ∙ world_of-append (run w xs) steps)) (c.in_ok-follow.ensures.made world inv.pair);
       printed =
           let before = g.K.Sink.output c.args.sink.now in
           let P : List ℕ → Type 0 = λ t. IsPrinted t c.follow.new.printer.text.items before (g.K.Sink.output c.follow.new.sink) in
           subst P (sym (ap report push ∙ report-append (run w xs) steps))
-          (c.in_ok-follow.ensures.ok w world before (report (run w xs)) inv.pair inv.printed);
+          (c.in_ok-follow.ensures.ok world before (report (run w xs)) inv.pair inv.printed);
       counted = omega (arith, inv.counted, c.in_ok-follow.ensures.counted);
     }
 
@@ -88,7 +90,7 @@ returns-in_err-follow-clause-err g c =
     rw err.1
     (subst P (sym whole)
     (WritesPart-longer (report (run w xs) ++ report steps) (report front.0) before after
-    (c.in_err-follow.ensures.err w world before (report (run w xs)) inv.pair inv.printed)))
+    (c.in_err-follow.ensures.err world before (report (run w xs)) inv.pair inv.printed)))
 
 pub returns-clause-ok : goal.returns-clause-ok
 returns-clause-ok g c =
@@ -98,9 +100,25 @@ returns-clause-ok g c =
     let before = g.K.Sink.output c.args.sink.now in
     let rest = c.loop-command.command-iterator.rest in
     let none : into_iter_items c.loop-command.command-iterator ≡ [] =
-    empty_list rest.items (sym rest.ok.0 ∙ c.in-None.ensures.steps.0) in
+    nil_from_length rest.items (sym rest.ok.0 ∙ c.in-None.ensures.steps.0) in
     let all : xs ≡ c.args.commands.items =
     sym (append-nil xs) ∙ ap (λ (cs : List Command). xs ++ cs) (sym none) ∙ inv.split in
     on_ok_weaker c.flush.result
     (λ f. let P : List Command → Type 0 = λ cs. Writes (report (run w cs)) before (g.K.Sink.output c.flush.new.sink) in subst P all f.1)
     (c.flush.ensures.ok before (report (run w xs)) inv.printed)
+
+pub returns-clause-sendable : goal.returns-clause-sendable
+returns-clause-sendable g c =
+    let w = c.args.window in
+    let xs : List Command = c.loop-command.yielded in
+    let inv = c.loop-command.invariant in
+    let before = g.K.Sink.output c.args.sink.now in
+    let rest = c.loop-command.command-iterator.rest in
+    let none : into_iter_items c.loop-command.command-iterator ≡ [] =
+    nil_from_length rest.items (sym rest.ok.0 ∙ c.in-None.ensures.steps.0) in
+    let all : xs ≡ c.args.commands.items =
+    sym (append-nil xs) ∙ ap (λ (cs : List Command). xs ++ cs) (sym none) ∙ inv.split in
+    let P : List Command → Type 0 = λ cs. AllSendable (world_of (run w cs)) in
+    let sendable : P c.args.commands.items =
+    subst P all (AllSendable-IsPair w (world_of (run w xs)) c.loop-command.pair inv.pair) in
+    on_ok_weaker c.flush.result (λ f. sendable) (c.flush.ensures.ok before (report (run w xs)) inv.printed)

@@ -1,20 +1,16 @@
-use Rattle.std.proofs.Common.{◌≡◌, ◌∷◌, ◌∙◌, [], ℕ, length, Option, Some, None, refl, sym, ap}
+use Rattle.std.proofs.Common.{◌≡◌, ◌∷◌, ◌∙◌, [], length, refl, ap}
 use Rattle.std.proofs.lemmas.List.{length-map}
 use Rattle.chan_io.specs.Sides.{other}
-use Rattle.chan_io.specs.declared.side.Side.{Side}
 use Rattle.channel_core.specs.declared.call.EndCall.{EndCall}
-use Rattle.channel_core.specs.declared.call.EndCall.TheVariants as EndCall
 use Rattle.channel_core.specs.declared.hearing.Incoming.TheVariants as Incoming
 use Rattle.channel_core.specs.History.{emissions}
 use Rattle.channel_core.specs.Wire.{encoding}
-use Rattle.channel_core.specs.World.{Event, history_of}
-use Rattle.lab_script.specs.declared.command.Command.{Command}
-use Rattle.lab_script.specs.declared.command.Command.TheVariants as Command
+use Rattle.channel_core.specs.World.{history_of}
 use Rattle.lab_script.specs.Command.{verb_of}
 use Rattle.lab_cmd.specs.declared.endpoint.Endpoint.{Endpoint}
-use Rattle.lab_cmd.specs.Ends.{IsCalled, side_of}
+use Rattle.lab_cmd.specs.Ends.{side_of}
 use Rattle.lab_cmd.specs.Run.{called, id_of, steps_of}
-use Rattle.lab_cmd.proofs.StepLemmas.{Makes-call, Makes-called, Makes-hear}
+use Rattle.lab_cmd.proofs.StepLemmas.{Makes-call, Makes-called, Makes-hear, Makes-hurt}
 use Rattle.lab_cmd.proofs.endpoint.Endpoint.act.Goals as goal
 
 pub returns-in-Put : goal.returns-in-Put
@@ -147,3 +143,12 @@ returns-in-Hear c w world legal here there =
     (rw (← same) c.in-Hear.is) legal here refl
     (c.hear.ensures (length (emissions (history_of side world))) sent
     (c.as_slice.ensures.value ∙ there.sent) there.sendable)
+
+pub returns-in-Hurt : goal.returns-in-Hurt
+returns-in-Hurt c w world legal here there =
+    let side = c.args.side in
+    let same : c.in-Hurt.side ≡ side = cc (ap side_of c.in-Hurt.is) in
+    let sent = emissions (history_of (other side) world) in
+    Makes-hurt w side world c.args.now c.args.line c.args.command c.in-Hurt.which c.in-Hurt.place c.args.self.now c.args.self.now c.hurt.result
+    (rw (← same) c.in-Hurt.is) here refl refl
+    (c.hurt.ensures sent (c.deref.ensures.value ∙ there.sent) there.sendable)

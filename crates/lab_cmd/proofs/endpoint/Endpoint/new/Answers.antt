@@ -1,6 +1,4 @@
-use Rattle.std.proofs.Common.{◌≡◌, [], ◌∷◌, refl, sym, ap, ◌∙◌}
-use Rattle.std.proofs.lemmas.List.Elements.{All-nil}
-use Rattle.channel_core.proofs.LegalLemmas.{IsLegal-nil}
+use Rattle.std.proofs.Common.{refl}
 use Rattle.lab_cmd.proofs.StepLemmas.{IsEndpoint-opened}
 use Rattle.lab_cmd.proofs.endpoint.Endpoint.new.Goals as goal
 

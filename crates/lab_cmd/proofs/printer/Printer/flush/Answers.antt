@@ -1,5 +1,5 @@
-use Rattle.std.proofs.Common.{◌≡◌, ℕ, List, Option, OnErr, Err, subst, sym}
-use Rattle.chan_io.specs.Sinks.{Output, WritesPart}
+use Rattle.std.proofs.Common.{ℕ, List, subst}
+use Rattle.chan_io.specs.Sinks.{WritesPart}
 use Rattle.lab_cmd.proofs.WritingLemmas.{WritesPart-append}
 use Rattle.std.proofs.lemmas.Result.{err_from_is_err_and}
 use Rattle.lab_cmd.proofs.printer.Printer.flush.Goals as goal

@@ -1,6 +1,5 @@
-use Rattle.std.proofs.Common.{◌≡◌, ℕ, List, [], ◌++◌, Option, Some, OnErr, Err, subst, sym, ap, ◌∙◌, append_assoc, append-nil}
+use Rattle.std.proofs.Common.{ℕ, List, ◌++◌, Some, sym, ap, ◌∙◌, append_assoc}
 use Rattle.std.proofs.lemmas.Result.{err_from_is_err_and, on_ok_weaker}
-use Rattle.chan_io.specs.Sinks.{Output, Writes, WritesPart}
 use Rattle.lab_script.specs.Report.{report_line}
 use Rattle.lab_cmd.specs.Printing.{IsPrinted}
 use Rattle.lab_cmd.proofs.WritingLemmas.{IsPrinted-whole, WritesPart-printed}
