@@ -7,6 +7,7 @@ use Rattle.std.proofs.lemmas.List.{append-nil}
 use Rattle.agent_message.specs.declared.item.Item.{Item}
 use Rattle.resend_queue.specs.Queue.{Pending, QueueState, first_number, moment_of, without_number}
 use Rattle.resend_queue.specs.RoundTrips.{RoundTrip, after_sample, after_samples, no_sample}
+use Rattle.receive_window.specs.Window.{item_with}
 use Rattle.channel_core.specs.declared.call.EndAnswer.{EndAnswer}
 use Rattle.channel_core.specs.declared.call.EndCall.{EndCall}
 use Rattle.channel_core.specs.declared.hearing.Heard.{Heard}
@@ -14,7 +15,7 @@ use Rattle.channel_core.specs.declared.hearing.Incoming.{Incoming}
 use Rattle.channel_core.specs.Call.{Entry}
 use Rattle.channel_core.specs.History.{Message, acked_numbers, emitted_numbers, is_closed, lowest_unacked, put_messages, taken_items}
 use Rattle.channel_core.specs.Legal.{IsAnswered, IsLegal, answer_to_ack, answer_to_heard}
-use Rattle.channel_core.specs.Numbers.{has_number, item_at, least_absent, numbers_of}
+use Rattle.channel_core.specs.Numbers.{has_number, least_absent, numbers_of}
 use Rattle.channel_core.specs.Resending.{due_count, last_moment, round_trip, round_trip_samples, transmissions}
 use Rattle.channel_core.specs.Stands.{EndState, Stands}
 use Rattle.channel_core.proofs.HistoryLemmas.{acked_numbers-push}
@@ -205,7 +206,7 @@ acked_goes w h now n moment old new legal s unclosed some is =
           (s.expected ∙ ap (λ (l : List (ℕ × Item)). least_absent (numbers_of l)) (sym taken));
       early = λ k. rw is
           (s.early k ∙ ap
-          (λ (l : List (ℕ × Item)). cond (ltb k (least_absent (numbers_of l))) None (item_at l k))
+          (λ (l : List (ℕ × Item)). cond (ltb k (least_absent (numbers_of l))) None (item_with l k))
           (sym taken));
       estimate = rw is estimate;
       owed = rw is s.owed;

@@ -7,6 +7,7 @@ use Rattle.std.proofs.lemmas.List.Elements.{All-nil, All-push, Contains-append_r
 use Rattle.chan_io.specs.declared.side.Side.{Side}
 use Rattle.chan_io.specs.Sides.{other}
 use Rattle.agent_message.specs.declared.item.Item.{Item}
+use Rattle.receive_window.specs.Window.{item_with}
 use Rattle.channel_core.specs.declared.call.EndAnswer.{EndAnswer}
 use Rattle.channel_core.specs.declared.call.EndCall.{EndCall}
 use Rattle.channel_core.specs.declared.hearing.Heard.{Heard}
@@ -15,11 +16,11 @@ use Rattle.channel_core.specs.Call.{Entry}
 use Rattle.channel_core.specs.History.{acked_numbers, emissions, next_in_order, put_items, released_items, taken_items, is_closed, lowest_unacked}
 use Rattle.channel_core.specs.Laws.{AcknowledgedHasArrived, EachNumberIsTakenOnce, HasArrived, NothingIsBeyond, ReleasedIsInOrder, ReleasedIsPrefix, WindowBoundsMessages}
 use Rattle.channel_core.specs.Legal.{IsAnswered, answer_to_heard, answer_to_incoming}
-use Rattle.channel_core.specs.Numbers.{has_number, item_at, numbers_of}
+use Rattle.channel_core.specs.Numbers.{has_number, numbers_of}
 use Rattle.channel_core.specs.World.{Event, IsHonest, IsLegalWorld, WasEmitted, history_of}
 use Rattle.channel_core.proofs.AgreementLemmas.{Agree, IsPutAs, IsSentFrom, agree}
 use Rattle.channel_core.proofs.HistoryLemmas.{by_pushes}
-use Rattle.channel_core.proofs.ItemLemmas.{item_at-contains, item_at-meets, item_at-there, filter_map-reads}
+use Rattle.channel_core.proofs.ItemLemmas.{item_with-contains, item_with-meets, item_with-there, filter_map-reads}
 use Rattle.channel_core.proofs.NumberLemmas.{least_absent-is, least_absent-le}
 use Rattle.channel_core.proofs.SoundLemmas.{IsSound, sound, within_window}
 use Rattle.channel_core.proofs.WorldLemmas.{IsHonest-pushed, IsLegalWorld-pushed, other-other}
@@ -35,11 +36,11 @@ released_items-front w s r agree sound =
     let next = next_in_order r in
     let items = put_items s in
     sound.in_order
-    ∙ filter_map-reads (item_at (taken_items r)) items 0 (next - 0) (λ k low high.
+    ∙ filter_map-reads (item_with (taken_items r)) items 0 (next - 0) (λ k low high.
     let there = (least_absent-is (numbers_of (taken_items r))).1 k (omega arith) in
-    let item = item_at-there (taken_items r) k there in
+    let item = item_with-there (taken_items r) k there in
     let all = recursion_from_All (IsPutAs items) (taken_items r) agree.taken in
-    (item.0, item.1, item_at-meets (IsPutAs items) (taken_items r) k item.0 all item.1))
+    (item.0, item.1, item_with-meets (IsPutAs items) (taken_items r) k item.0 all item.1))
     ∙ ap (λ (n : ℕ). take n items) (omega arith)
 
 -- the sender's lowest unacknowledged number is at most the receiver's next
@@ -146,12 +147,12 @@ pub has_arrived : (w : ℕ) (s r : List Entry) (n : ℕ)
     → has_number (numbers_of (taken_items r)) n ≡ true
     → HasArrived s r n
 has_arrived w s r n agree sound there =
-    let found = item_at-there (taken_items r) n there in
+    let found = item_with-there (taken_items r) n there in
     let item = found.0 in
-    let put = item_at-meets
+    let put = item_with-meets
     (IsPutAs (put_items s)) (taken_items r) n item
     (recursion_from_All (IsPutAs (put_items s)) (taken_items r) agree.taken) found.1 in
-    let contains = item_at-contains (taken_items r) n item found.1 in
+    let contains = item_with-contains (taken_items r) n item found.1 in
     let front = released_items-front w s r agree sound in
     record {
       item = item;

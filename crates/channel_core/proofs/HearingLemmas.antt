@@ -1,5 +1,5 @@
 -- Stream messages that are heard: from what an end keeps to the entry that follows.
-use Rattle.std.proofs.Common.{◌≡◌, ℕ, ◌+◌, ◌<◌, ◌≤◌, Bool, true, false, cond, ◌||◌, Option, Some, None, List, [], ◌∷◌, inl, inr, ⊎_elim, refl, sym, ap, ◌∙◌, arith, eqb, ltb}
+use Rattle.std.proofs.Common.{◌≡◌, ℕ, ◌+◌, ◌<◌, ◌≤◌, Bool, true, false, cond, ◌||◌, Option, None, List, [], ◌∷◌, inl, inr, ⊎_elim, refl, sym, ap, ◌∙◌, arith, eqb, ltb}
 use Rattle.std.proofs.lemmas.Bool.{cases_Bool}
 use Rattle.agent_message.specs.declared.item.Item.{Item}
 use Rattle.channel_core.specs.declared.call.EndAnswer.{EndAnswer}
@@ -9,7 +9,7 @@ use Rattle.channel_core.specs.declared.hearing.Incoming.{Incoming}
 use Rattle.channel_core.specs.Call.{Entry}
 use Rattle.channel_core.specs.History.{is_closed, next_in_order, owed_with, taken_items}
 use Rattle.channel_core.specs.Legal.{IsLegal, answer_to_heard, answer_to_incoming}
-use Rattle.channel_core.specs.Numbers.{has_number, item_at, numbers_of}
+use Rattle.channel_core.specs.Numbers.{has_number, numbers_of}
 use Rattle.channel_core.specs.Stands.{EndState, Stands}
 use Rattle.channel_core.proofs.StandingLemmas.{Goes, nothing_goes, or-false, still_goes}
 use Rattle.std.specs.Option.{is_some}
@@ -22,20 +22,14 @@ use Rattle.channel_core.proofs.StillLemmas.{after_close_still, beyond_still, end
 abbrev pub stream_call : ℕ → ℕ → List ℕ → Item → EndCall
 stream_call now n id item = EndCall.Heard now (Incoming.Stream n id item)
 
--- two ways to look up an item
-pub item_with-at : (items : List (ℕ × Item)) (n : ℕ) → item_with items n ≡ item_at items n
-item_with-at [] n = refl
-item_with-at (p ∷ items) n = ap (λ (o : Option Item). cond (eqb n p.0) (Some p.1) o)
-    (item_with-at items n)
-
 -- a number has an item where it is among the numbers
-pub is_some-item_at : (items : List (ℕ × Item)) (n : ℕ)
-    → is_some (item_at items n) ≡ has_number (numbers_of items) n
-is_some-item_at [] n = refl
-is_some-item_at (p ∷ items) n =
+pub is_some-item_with : (items : List (ℕ × Item)) (n : ℕ)
+    → is_some (item_with items n) ≡ has_number (numbers_of items) n
+is_some-item_with [] n = refl
+is_some-item_with (p ∷ items) n =
     ⊎_elim
     (λ (here : eqb n p.0 ≡ true). rw here refl)
-    (λ (later : eqb n p.0 ≡ false). rw later (is_some-item_at items n))
+    (λ (later : eqb n p.0 ≡ false). rw later (is_some-item_with items n))
     (cases_Bool (eqb n p.0))
 
 -- what an end knows of a number is what the history tells
@@ -48,10 +42,10 @@ is_taken-is w h old n s =
     ∙ at (ltb n (next_in_order h))
   where
     at : (b : Bool)
-        → (b || is_some (cond b None (item_at (taken_items h) n))) ≡
+        → (b || is_some (cond b None (item_with (taken_items h) n))) ≡
         (b || has_number (numbers_of (taken_items h)) n)
     at true = refl
-    at false = is_some-item_at (taken_items h) n
+    at false = is_some-item_with (taken_items h) n
 
 late_is : (w : ℕ) (h : List Entry) (n : ℕ) (item : Item)
     → (ltb n (next_in_order h) || has_number (numbers_of (taken_items h)) n) ≡ true

@@ -6,8 +6,9 @@ use Rattle.std.proofs.lemmas.List.{drop_more, map-append}
 use Rattle.std.proofs.lemmas.List.Elements.{All-cons, All-nil, Contains-append_right, filter_map-append}
 use Rattle.std.proofs.lemmas.Option.{get_or_from_slice_get, slice_get_within}
 use Rattle.agent_message.specs.declared.item.Item.{Item}
+use Rattle.receive_window.specs.Window.{item_with, items_in_order}
 use Rattle.channel_core.specs.Legal.{items_released_by}
-use Rattle.channel_core.specs.Numbers.{has_number, item_at, items_between, least_absent, numbers_of, or_else}
+use Rattle.channel_core.specs.Numbers.{has_number, least_absent, numbers_of, or_else}
 use Rattle.channel_core.proofs.NumberLemmas.{least_absent-grows, least_absent-is}
 
 -- a range is its front and its rest
@@ -61,23 +62,23 @@ pub numbers_of-append : (ps qs : List (ℕ × Item))
 numbers_of-append ps qs = map-append (λ (p : ℕ × Item). p.0) ps qs
 
 -- a number that stands there has an item
-pub item_at-there : (ps : List (ℕ × Item)) (n : ℕ)
+pub item_with-there : (ps : List (ℕ × Item)) (n : ℕ)
     → has_number (numbers_of ps) n ≡ true
-    → (item : Item) × (item_at ps n ≡ Some item)
-item_at-there [] n there = cc
-item_at-there (p ∷ ps) n there =
+    → (item : Item) × (item_with ps n ≡ Some item)
+item_with-there [] n there = cc
+item_with-there (p ∷ ps) n there =
     ⊎_elim
     (λ (first : eqb n p.0 ≡ true). (p.1, rw first refl))
     (λ (other : eqb n p.0 ≡ false).
-    let later = item_at-there ps n (rw other at there) in (later.0, rw other later.1))
+    let later = item_with-there ps n (rw other at there) in (later.0, rw other later.1))
     (cases_Bool (eqb n p.0))
 
 -- an item that is looked up stands there with its number
-pub item_at-contains : (ps : List (ℕ × Item)) (n : ℕ) (item : Item)
-    → item_at ps n ≡ Some item
+pub item_with-contains : (ps : List (ℕ × Item)) (n : ℕ) (item : Item)
+    → item_with ps n ≡ Some item
     → Contains ps (n, item)
-item_at-contains [] n item is = cc
-item_at-contains (p ∷ ps) n item is =
+item_with-contains [] n item is = cc
+item_with-contains (p ∷ ps) n item is =
     ⊎_elim
     (λ (first : eqb n p.0 ≡ true).
     let same : Some p.1 ≡ Some item = rw first at is in
@@ -85,26 +86,26 @@ item_at-contains (p ∷ ps) n item is =
     let value : p.1 ≡ item = cc in
     (0, omega arith, rw (number, value) refl))
     (λ (other : eqb n p.0 ≡ false).
-    Contains-append_right (p ∷ []) ps (n, item) (item_at-contains ps n item (rw other at is)))
+    Contains-append_right (p ∷ []) ps (n, item) (item_with-contains ps n item (rw other at is)))
     (cases_Bool (eqb n p.0))
 
 -- looking up in joined lists takes the first that is there
-pub item_at-append : (ps qs : List (ℕ × Item)) (n : ℕ)
-    → item_at (ps ++ qs) n ≡ or_else (item_at ps n) (item_at qs n)
-item_at-append [] qs n = refl
-item_at-append (p ∷ ps) qs n =
+pub item_with-append : (ps qs : List (ℕ × Item)) (n : ℕ)
+    → item_with (ps ++ qs) n ≡ or_else (item_with ps n) (item_with qs n)
+item_with-append [] qs n = refl
+item_with-append (p ∷ ps) qs n =
     ⊎_elim
     (λ (first : eqb n p.0 ≡ true). rw first refl)
-    (λ (other : eqb n p.0 ≡ false). rw other (item_at-append ps qs n))
+    (λ (other : eqb n p.0 ≡ false). rw other (item_with-append ps qs n))
     (cases_Bool (eqb n p.0))
 
 -- an item that is looked up meets what each pair meets
-pub item_at-meets : (P : ℕ × Item → Type 0) (ps : List (ℕ × Item)) (n : ℕ) (item : Item)
+pub item_with-meets : (P : ℕ × Item → Type 0) (ps : List (ℕ × Item)) (n : ℕ) (item : Item)
     → AllByRecursion P ps
-    → item_at ps n ≡ Some item
+    → item_with ps n ≡ Some item
     → P (n, item)
-item_at-meets P [] n item all is = cc
-item_at-meets P (p ∷ ps) n item all is =
+item_with-meets P [] n item all is = cc
+item_with-meets P (p ∷ ps) n item all is =
     ⊎_elim
     (λ (first : eqb n p.0 ≡ true).
     let same : Some p.1 ≡ Some item = rw first at is in
@@ -112,7 +113,7 @@ item_at-meets P (p ∷ ps) n item all is =
     let value : p.1 ≡ item = cc in
     let whole : p ≡ (n, item) = rw (number, sym value) refl in
     subst P whole all.0)
-    (λ (other : eqb n p.0 ≡ false). item_at-meets P ps n item all.1 (rw other at is))
+    (λ (other : eqb n p.0 ≡ false). item_with-meets P ps n item all.1 (rw other at is))
     (cases_Bool (eqb n p.0))
 
 -- the next number in order doesn't fall where more items come
@@ -134,10 +135,10 @@ numbers_apart (p ∷ ps) n absent =
     (numbers_apart ps n parts.1)
 
 -- the items up to the next number, and those that one more releases, are those up to the new one
-pub items_between-join : (ps : List (ℕ × Item)) (n : ℕ) (item : Item)
-    → items_between ps 0 (least_absent (numbers_of ps)) ++ items_released_by ps n item
-    ≡ items_between (ps ++ (n, item) ∷ []) 0 (least_absent (numbers_of (ps ++ (n, item) ∷ [])))
-items_between-join ps n item =
+pub items_in_order-join : (ps : List (ℕ × Item)) (n : ℕ) (item : Item)
+    → items_in_order ps 0 (least_absent (numbers_of ps)) ++ items_released_by ps n item
+    ≡ items_in_order (ps ++ (n, item) ∷ []) 0 (least_absent (numbers_of (ps ++ (n, item) ∷ [])))
+items_in_order-join ps n item =
     let new : List (ℕ × Item) = (n, item) ∷ [] in
     let qs = ps ++ new in
     let old_next = least_absent (numbers_of ps) in
@@ -145,18 +146,20 @@ items_between-join ps n item =
     let grows = least_absent-grows_items ps new in
     let old = range_with_len 0 (old_next - 0) in
     let more = range_with_len old_next (new_next - old_next) in
-    let front : filter_map (item_at ps) old ≡ filter_map (item_at qs) old
-    = filter_map-agree (item_at ps) (item_at qs) 0 (old_next - 0) (λ k low high.
-    let there = item_at-there ps k ((least_absent-is (numbers_of ps)).1 k (omega arith)) in
+    let front : filter_map (item_with ps) old ≡ filter_map (item_with qs) old
+    = filter_map-agree (item_with ps) (item_with qs) 0 (old_next - 0) (λ k low high.
+    let there = item_with-there ps k ((least_absent-is (numbers_of ps)).1 k (omega arith)) in
     there.1
-    ∙ sym (item_at-append ps new k ∙ ap (λ (o : Option Item). or_else o (item_at new k)) there.1)) in
+    ∙ sym
+    (item_with-append ps new k
+    ∙ ap (λ (o : Option Item). or_else o (item_with new k)) there.1)) in
     let count : new_next - 0 ≡ (old_next - 0) + (new_next - old_next) = omega arith in
     let start : 0 + (old_next - 0) ≡ old_next = omega arith in
     let split : range_with_len 0 (new_next - 0) ≡ old ++ more
     = ap (range_with_len 0) count
     ∙ range_with_len-add 0 (old_next - 0) (new_next - old_next)
     ∙ ap (λ (k : ℕ). old ++ range_with_len k (new_next - old_next)) start in
-    ap (λ (l : List Item). l ++ filter_map (item_at qs) more) front
+    ap (λ (l : List Item). l ++ filter_map (item_with qs) more) front
     ∙ sym
-    (ap (filter_map (item_at qs)) split
-    ∙ filter_map-append (item_at qs) old more)
+    (ap (filter_map (item_with qs)) split
+    ∙ filter_map-append (item_with qs) old more)

@@ -10,7 +10,7 @@ use Rattle.channel_core.specs.declared.hearing.Incoming.{Incoming}
 use Rattle.channel_core.specs.Call.{Entry}
 use Rattle.channel_core.specs.History.{is_closed, lowest_unacked, next_in_order, owed_with, taken_items}
 use Rattle.channel_core.specs.Legal.{IsLegal, answer_to_heard}
-use Rattle.channel_core.specs.Numbers.{has_number, item_at, least_absent, numbers_of}
+use Rattle.channel_core.specs.Numbers.{has_number, least_absent, numbers_of, or_else}
 use Rattle.channel_core.specs.Resending.{due_count, round_trip_samples}
 use Rattle.channel_core.specs.Stands.{EndState, Stands}
 use Rattle.channel_core.proofs.NumberLemmas.{least_absent-is, least_absent-unique, has_number-more}
@@ -23,10 +23,9 @@ use Rattle.std.proofs.lemmas.Bool.{or_parts}
 use Rattle.receive_window.specs.declared.take.Take.{Take}
 use Rattle.receive_window.specs.Window.{Releases, WindowState, is_taken, item_with, items_in_order}
 use Rattle.channel_core.specs.Legal.{items_released_by}
-use Rattle.channel_core.specs.Numbers.{items_between, or_else}
 use Rattle.channel_core.specs.Stands.{early_item}
-use Rattle.channel_core.proofs.ItemLemmas.{filter_map-agree, item_at-append, numbers_of-append}
-use Rattle.channel_core.proofs.HearingLemmas.{is_some-item_at, is_taken-is, open_heard, released_is, stream_call}
+use Rattle.channel_core.proofs.ItemLemmas.{filter_map-agree, item_with-append, numbers_of-append}
+use Rattle.channel_core.proofs.HearingLemmas.{is_some-item_with, is_taken-is, open_heard, released_is, stream_call}
 
 -- what is there of the first value, or else of none
 or_else-none : (o : Option Item) → or_else o None ≡ o
@@ -43,21 +42,21 @@ arrived-is : (w : ℕ) (h : List Entry) (n : ℕ) (item : Item) (old : EndState)
     → has_number (numbers_of (taken_items h)) n ≡ false
     → (k : ℕ)
     → next_in_order h ≤ k
-    → item_with ((n, item) ∷ old.received.early) k ≡ item_at (taken_items h ++ (n, item) ∷ []) k
+    → item_with ((n, item) ∷ old.received.early) k ≡ item_with (taken_items h ++ (n, item) ∷ []) k
 arrived-is w h n item old s new k above =
     ⊎_elim
     (λ (here : k ≡ n).
-    let absent : item_at (taken_items h) k ≡ None
-    = no_item (item_at (taken_items h) k) (is_some-item_at (taken_items h) k ∙ rw here new) in
+    let absent : item_with (taken_items h) k ≡ None
+    = no_item (item_with (taken_items h) k) (is_some-item_with (taken_items h) k ∙ rw here new) in
     let yes : eqb k n ≡ true = eq-eqb k n here in
-    rw yes (sym (item_at-append (taken_items h) ((n, item) ∷ []) k ∙ rw (absent, yes) refl)))
+    rw yes (sym (item_with-append (taken_items h) ((n, item) ∷ []) k ∙ rw (absent, yes) refl)))
     (λ (other : k ≡ n → ⊥).
     let no : eqb k n ≡ false = ne_eqb k n other in
-    let early : early_item h k ≡ item_at (taken_items h) k
+    let early : early_item h k ≡ item_with (taken_items h) k
     = rw (le-ltb k (next_in_order h) above) refl in
-    let alone : or_else (item_at (taken_items h) k) (item_at ((n, item) ∷ []) k) ≡ item_at
-    (taken_items h) k = rw no (or_else-none (item_at (taken_items h) k)) in
-    rw no (s.early k ∙ early ∙ sym (item_at-append (taken_items h) ((n, item) ∷ []) k ∙ alone)))
+    let alone : or_else (item_with (taken_items h) k) (item_with ((n, item) ∷ []) k) ≡ item_with
+    (taken_items h) k = rw no (or_else-none (item_with (taken_items h) k)) in
+    rw no (s.early k ∙ early ∙ sym (item_with-append (taken_items h) ((n, item) ∷ []) k ∙ alone)))
     (cases_eq k n)
 
 pub released_goes : (w : ℕ) (h : List Entry) (now n : ℕ) (id : List ℕ) (item : Item)
@@ -87,25 +86,25 @@ released_goes w h now n id item items received old new legal s unclosed untaken 
     let absent : has_number (numbers_of taken) n ≡ false
     = (or_parts (ltb n reach) (has_number (numbers_of taken) n) new_number).1 in
     let within : n < reach + w = omega arith in
-    let same : (k : ℕ) → reach ≤ k → item_with arrived k ≡ item_at more k
+    let same : (k : ℕ) → reach ≤ k → item_with arrived k ≡ item_with more k
     = arrived-is w h n item old s absent in
     let grows : reach ≤ to = let g = r.grows in omega arith in
     let reached : least_absent (numbers_of more) ≡ to = least_absent-unique (numbers_of more) to
-    (sym (is_some-item_at more to) ∙ ap is_some (sym (same to grows) ∙ r.missing))
+    (sym (is_some-item_with more to) ∙ ap is_some (sym (same to grows) ∙ r.missing))
     (λ k below. ⊎_elim
     (λ (old_number : k < reach). ap (λ (l : List ℕ). has_number l k)
     (numbers_of-append taken ((n, item) ∷ []))
     ∙ has_number-more (numbers_of taken) (n ∷ []) k
     ((least_absent-is (numbers_of taken)).1 k old_number))
-    (λ (above : reach ≤ k). sym (is_some-item_at more k) ∙ ap is_some (sym (same k above))
+    (λ (above : reach ≤ k). sym (is_some-item_with more k) ∙ ap is_some (sym (same k above))
     ∙ r.there k (omega arith) below)
     (cases_lt k reach)) in
     let list : items ≡ items_released_by taken n item
     = r.released
     ∙ ap (λ (k : ℕ). items_in_order arrived k to) expected
-    ∙ filter_map-agree (item_with arrived) (item_at more) reach (to - reach)
+    ∙ filter_map-agree (item_with arrived) (item_with more) reach (to - reach)
     (λ k low high. same k low)
-    ∙ ap (items_between more reach) (sym reached) in
+    ∙ ap (items_in_order more reach) (sym reached) in
     let given : answer_to_heard w h (Incoming.Stream n id item) ≡ Heard.Released items
     = open_heard w h (Incoming.Stream n id item) (sym s.closed ∙ unclosed)
     ∙ released_is w h n item new_number within
@@ -122,7 +121,7 @@ released_goes w h now n id item items received old new legal s unclosed untaken 
       expected = rw is (sym reached);
       early = λ k. rw is
           (r.early k ∙ later k more arrived same grows
-          ∙ ap (λ (l : ℕ). cond (ltb k l) None (item_at more k)) (sym reached));
+          ∙ ap (λ (l : ℕ). cond (ltb k l) None (item_with more k)) (sym reached));
       estimate = rw is (s.estimate ∙ ap after_samples (sym (append-nil (round_trip_samples h))));
       owed = rw is
           (ap (λ (k : ℕ). owed_with k old.owed n id) window
@@ -133,10 +132,10 @@ released_goes w h now n id item items received old new legal s unclosed untaken 
     })
   where
     later : (k : ℕ) (more arrived : List (ℕ × Item))
-        → ((j : ℕ) → next_in_order h ≤ j → item_with arrived j ≡ item_at more j)
+        → ((j : ℕ) → next_in_order h ≤ j → item_with arrived j ≡ item_with more j)
         → next_in_order h ≤ received.expected
         → cond (ltb k received.expected) None (item_with arrived k) ≡ cond
-        (ltb k received.expected) None (item_at more k)
+        (ltb k received.expected) None (item_with more k)
     later k more arrived same grows =
         ⊎_elim
         (λ (low : k < received.expected). rw (lt-ltb k received.expected low) refl)

@@ -10,15 +10,16 @@ use Rattle.std.proofs.lemmas.List.Kept.{AllPairs-filter}
 use Rattle.std.proofs.lemmas.List.Quantifiers.{all_pairs_push}
 use Rattle.std.proofs.lemmas.List.Sums.{count_by-le-length, length-filter}
 use Rattle.agent_message.specs.declared.item.Item.{Item}
+use Rattle.receive_window.specs.Window.{items_in_order}
 use Rattle.channel_core.specs.declared.call.EndAnswer.{EndAnswer}
 use Rattle.channel_core.specs.declared.call.EndCall.{EndCall}
 use Rattle.channel_core.specs.Call.{Entry}
 use Rattle.channel_core.specs.History.{Message, acked_numbers, early_items, item_taken, items_released, lowest_unacked, message_put, next_in_order, number_acked, owed_acks, owed_after, owed_with, put_messages, released_items, taken_items}
 use Rattle.channel_core.specs.Laws.{IsWithinWindow}
 use Rattle.channel_core.specs.Legal.{IsAnswered, IsLegal, items_released_by}
-use Rattle.channel_core.specs.Numbers.{has_number, items_between, least_absent, numbers_of}
+use Rattle.channel_core.specs.Numbers.{has_number, least_absent, numbers_of}
 use Rattle.channel_core.proofs.HistoryLemmas.{acked_numbers-push, by_pushes, owed_acks-push, put_messages-push, released_items-push, taken_items-push}
-use Rattle.channel_core.proofs.ItemLemmas.{items_between-join, least_absent-grows_items, numbers_apart, range_with_len-add}
+use Rattle.channel_core.proofs.ItemLemmas.{items_in_order-join, least_absent-grows_items, numbers_apart, range_with_len-add}
 use Rattle.channel_core.proofs.LegalLemmas.{IsLegal-pushed, by_cases}
 use Rattle.channel_core.proofs.NumberLemmas.{least_absent-grows, least_absent-is}
 
@@ -28,7 +29,7 @@ pub record IsSound (w : ℕ) (h : List Entry) : Type 0 where
   pub near : All (λ p. p.0 < next_in_order h + w) (taken_items h)
   pub once : AllPairs (λ p q. p.0 ≢ q.0) (taken_items h)
   pub few_owed : length (owed_acks w h) ≤ w
-  pub in_order : released_items h ≡ items_between (taken_items h) 0 (next_in_order h)
+  pub in_order : released_items h ≡ items_in_order (taken_items h) 0 (next_in_order h)
 
 -- a put keeps the window
 abbrev Room : ℕ → List Entry → EndCall → EndAnswer → Type 0
@@ -111,15 +112,15 @@ abbrev InOrder : List Entry → EndCall → EndAnswer → Type 0
 InOrder h call answer =
     let taken = taken_items h ++ cons_option (item_taken answer call) [] in
     released_items h ++ items_released answer
-    ≡ items_between taken 0 (least_absent (numbers_of taken))
+    ≡ items_in_order taken 0 (least_absent (numbers_of taken))
 
 in_order_after : (w : ℕ) (h : List Entry) (call : EndCall) (answer : EndAnswer)
-    → released_items h ≡ items_between (taken_items h) 0 (next_in_order h)
+    → released_items h ≡ items_in_order (taken_items h) 0 (next_in_order h)
     → IsAnswered w h call answer
     → InOrder h call answer
 in_order_after w h call answer in_order answered =
     let same : released_items h ++ []
-    ≡ items_between (taken_items h ++ []) 0 (least_absent (numbers_of (taken_items h ++ [])))
+    ≡ items_in_order (taken_items h ++ []) 0 (least_absent (numbers_of (taken_items h ++ [])))
     = rw (append-nil (released_items h), append-nil (taken_items h)) in_order in
     by_cases w h (InOrder h)
     (record {
@@ -128,7 +129,7 @@ in_order_after w h call answer in_order answered =
       late = λ now n id item there. same;
       released = λ now n id item absent near.
           ap (λ (l : List Item). l ++ items_released_by (taken_items h) n item) in_order
-          ∙ items_between-join (taken_items h) n item;
+          ∙ items_in_order-join (taken_items h) n item;
       acked = λ now n out before. same;
       emit_ack = λ now p owed is. same;
       emit_stream = λ now n m below eligible is. same;

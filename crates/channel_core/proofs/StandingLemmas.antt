@@ -11,7 +11,7 @@ use Rattle.channel_core.specs.declared.call.EndCall.{EndCall}
 use Rattle.channel_core.specs.Call.{Entry, with_earlier}
 use Rattle.channel_core.specs.History.{Message, acked_numbers, closes, is_closed, is_paused, is_up, item_taken, lowest_unacked, number_acked, owed_acks, owed_after, paused_after, put_messages, taken_items, up_after}
 use Rattle.channel_core.specs.Legal.{IsAnswered, IsLegal}
-use Rattle.channel_core.specs.Numbers.{item_at, least_absent, numbers_of}
+use Rattle.channel_core.specs.Numbers.{least_absent, numbers_of}
 use Rattle.channel_core.specs.Resending.{due_count, is_due, round_trip_samples, sample_of}
 use Rattle.channel_core.specs.Stands.{EndState, Stands, queue_after}
 use Rattle.channel_core.proofs.HistoryLemmas.{acked_numbers-push, is_closed-push, is_paused-push, is_up-push, owed_acks-push, round_trip_samples-push, taken_items-push}
@@ -45,7 +45,7 @@ pub record Keeps (w : ℕ) (end : EndState) (h : List Entry) (e : Entry) : Type 
   pub expected : end.received.expected ≡ least_absent (numbers_of (taken_after h e))
   pub early : (n : ℕ)
       → item_with end.received.early n ≡ cond
-      (ltb n (least_absent (numbers_of (taken_after h e)))) None (item_at (taken_after h e) n)
+      (ltb n (least_absent (numbers_of (taken_after h e)))) None (item_with (taken_after h e) n)
   pub estimate : end.estimate ≡ after_samples
       (round_trip_samples h ++ cons_option (sample_of h e.answer e.call) [])
   pub owed : end.owed ≡ owed_after w (owed_acks w h) e.answer e.call
@@ -71,7 +71,7 @@ stands w end h e k =
       window = k.window;
       expected = k.expected ∙ ap (λ (l : List (ℕ × Item)). least_absent (numbers_of l)) (sym taken);
       early = λ n. k.early n ∙ ap
-          (λ (l : List (ℕ × Item)). cond (ltb n (least_absent (numbers_of l))) None (item_at l n))
+          (λ (l : List (ℕ × Item)). cond (ltb n (least_absent (numbers_of l))) None (item_with l n))
           (sym taken);
       estimate = k.estimate ∙ ap after_samples (sym (round_trip_samples-push h e));
       owed = k.owed ∙ sym (owed_acks-push w h e);
@@ -127,7 +127,7 @@ step_goes w h old new call answer legal s answered takes_none samples_none queue
           ∙ ap (λ (l : List (ℕ × Item)). least_absent (numbers_of l)) (sym taken);
       early = λ n. ap (λ (r : WindowState). item_with r.early n) received ∙ s.early n
           ∙ ap (λ (l : List (ℕ × Item)). cond (ltb n (least_absent (numbers_of l))) None
-          (item_at l n)) (sym taken);
+          (item_with l n)) (sym taken);
       estimate = estimate ∙ s.estimate ∙ ap after_samples
           (sym (ap (λ (o : Option ℕ). round_trip_samples h ++ cons_option o []) samples_none
           ∙ append-nil (round_trip_samples h)));

@@ -4,6 +4,7 @@ use Rattle.std.specs.List.{All, AllPairs, Contains}
 use Rattle.chan_io.specs.declared.side.Side.{Side}
 use Rattle.chan_io.specs.Sides.{other}
 use Rattle.agent_message.specs.declared.item.Item.{Item}
+use Rattle.receive_window.specs.Window.{items_in_order}
 use Rattle.channel_core.specs.declared.call.EndAnswer.TheVariants as EndAnswer
 use Rattle.channel_core.specs.declared.hearing.Heard.TheVariants as Heard
 use Rattle.channel_core.specs.Call.{Entry}
@@ -12,7 +13,7 @@ use Rattle.channel_core.specs.Encodable.{IsEncodable}
 use Rattle.channel_core.specs.Exchange.{IsExchange, pull_count}
 use Rattle.channel_core.specs.History.{acked_numbers, early_items, emissions, is_closed, next_in_order, owed_acks, put_items, released_items, taken_items, unacked_numbers}
 use Rattle.channel_core.specs.Legal.{IsAnswered, IsLegal}
-use Rattle.channel_core.specs.Numbers.{has_number, items_between}
+use Rattle.channel_core.specs.Numbers.{has_number}
 use Rattle.channel_core.specs.World.{Event, HearsEmitted, IsHonest, IsLegalWorld, history_of}
 
 -- a world of no events is legal and honest, and it stays so with each call that gets its
@@ -48,7 +49,7 @@ abbrev pub ReleasedIsInOrder : Type 0
 ReleasedIsInOrder =
     (w : ℕ) (h : List Entry)
     → IsLegal w h
-    → released_items h ≡ items_between (taken_items h) 0 (next_in_order h)
+    → released_items h ≡ items_in_order (taken_items h) 0 (next_in_order h)
 
 -- the item that s put in with this number has arrived at r: it is released there, or it is early
 -- and waits for another

@@ -2,6 +2,7 @@
 use Rattle.std.specs.Prelude.{◌≡◌, ℕ, ◌+◌, ◌-◌, ◌^◌, max, Bool, not, ◌&&◌, ◌||◌, ◌⊎◌, Option, Some, None, List, [], ◌∷◌, ◌++◌, length, if◌then◌else◌, nat_eq, nat_le, nat_lt, slice_get}
 use Rattle.std.specs.List.{All}
 use Rattle.agent_message.specs.declared.item.Item.{Item}
+use Rattle.receive_window.specs.Window.{items_in_order}
 use Rattle.channel_core.specs.declared.call.EndAnswer.{EndAnswer}
 use Rattle.channel_core.specs.declared.call.EndCall.{EndCall}
 use Rattle.channel_core.specs.declared.hearing.Heard.{Heard}
@@ -13,7 +14,7 @@ use Rattle.channel_core.specs.declared.put.Put.{Put}
 use Rattle.channel_core.specs.declared.tick.Tick.{Tick}
 use Rattle.channel_core.specs.Call.{Entry, with_earlier}
 use Rattle.channel_core.specs.History.{Message, acked_numbers, emitted_numbers, is_closed, is_paused, is_up, lowest_unacked, next_in_order, owed_acks, put_messages, taken_items}
-use Rattle.channel_core.specs.Numbers.{has_number, items_between, least_absent, least_below, numbers_of}
+use Rattle.channel_core.specs.Numbers.{has_number, least_absent, least_below, numbers_of}
 use Rattle.channel_core.specs.Resending.{due_count, is_eligible, last_moment, marked_due, round_trip, sent_since_opened, transmissions}
 
 -- to a put: the next number, unless the end is closed, the numbers are spent or the window is full
@@ -28,7 +29,7 @@ answer_to_put w h item =
 abbrev pub items_released_by : List (ℕ × Item) → ℕ → Item → List Item
 items_released_by taken n item =
     let more = taken ++ (n, item) ∷ [] in
-    items_between more (least_absent (numbers_of taken)) (least_absent (numbers_of more))
+    items_in_order more (least_absent (numbers_of taken)) (least_absent (numbers_of more))
 
 -- to a stream message: late if it was taken before, beyond if it is outside the window
 unfoldable pub answer_to_stream : ℕ → List Entry → ℕ → Item → Heard

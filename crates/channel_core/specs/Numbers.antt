@@ -1,6 +1,6 @@
--- Numbers in a list, the least one that is missing, and items by their number.
-use Rattle.std.specs.Prelude.{ℕ, ◌+◌, ◌-◌, zero, suc, Bool, not, Option, Some, None, List, [], ◌∷◌, map, if◌then◌else◌, nat_eq, unwrap_or}
-use Rattle.std.specs.List.{filter_map, list_any, range_with_len, sum}
+-- Numbers in a list, and the least one that is missing.
+use Rattle.std.specs.Prelude.{ℕ, ◌+◌, zero, suc, Bool, not, Option, Some, None, List, map, if◌then◌else◌, nat_eq, unwrap_or}
+use Rattle.std.specs.List.{list_any, sum}
 use Rattle.agent_message.specs.declared.item.Item.{Item}
 
 -- whether the number is in the list
@@ -26,12 +26,3 @@ least_absent numbers =
 -- the numbers of a list of numbered items
 abbrev pub numbers_of : List (ℕ × Item) → List ℕ
 numbers_of items = map (λ p. p.0) items
-
--- the first item with this number
-abbrev pub item_at : List (ℕ × Item) → ℕ → Option Item
-item_at [] n = None
-item_at (p ∷ items) n = if nat_eq n p.0 then Some p.1 else item_at items n
-
--- the items with the numbers from the first bound up to the second, by number
-abbrev pub items_between : List (ℕ × Item) → ℕ → ℕ → List Item
-items_between items from to = filter_map (item_at items) (range_with_len from (to - from))

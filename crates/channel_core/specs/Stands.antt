@@ -12,7 +12,7 @@ use Rattle.channel_core.specs.declared.hearing.Incoming.{Incoming}
 use Rattle.channel_core.specs.Call.{Entry}
 use Rattle.channel_core.specs.History.{Message, emitted_numbers, is_closed, is_paused, is_up, lowest_unacked, next_in_order, owed_acks, put_messages, taken_items, unacked_numbers}
 use Rattle.channel_core.specs.Legal.{IsLegal}
-use Rattle.channel_core.specs.Numbers.{has_number, item_at}
+use Rattle.channel_core.specs.Numbers.{has_number}
 use Rattle.channel_core.specs.Resending.{due_count, last_moment, marked_due, round_trip, sent_since_opened, transmissions}
 
 -- an end, as contracts see it
@@ -61,7 +61,7 @@ queue_after w h =
 
 -- the early item with this number that the entries leave
 abbrev pub early_item : List Entry → ℕ → Option Item
-early_item h n = if nat_lt n (next_in_order h) then None else item_at (taken_items h) n
+early_item h n = if nat_lt n (next_in_order h) then None else item_with (taken_items h) n
 
 -- an end with the window w keeps what the entries tell
 pub record Stands (w : ℕ) (end : EndState) (h : List Entry) : Type 0 where
