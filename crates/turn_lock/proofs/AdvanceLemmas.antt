@@ -113,6 +113,7 @@ module _ {V C A T : Type 0} (t : Ghosts V C A T) (made_with : T) where
           owns_own = live.owns_own;
           made_own = λ q own. entries_of_both q v.mine r.log e (live.made_own q own);
           no_others = λ q other. entries_of_other q v.mine e (not_mine q other) ∙ live.no_others q other;
+          seen_own = λ q _. ap (λ (l : List (Entry C A)). entries_of q (l ++ e ∷ [])) seen;
           in_stage = number;
         };
         others = λ j u other f sp. let theirs = r.each j u f sp in record {
@@ -123,6 +124,8 @@ module _ {V C A T : Type 0} (t : Ghosts V C A T) (made_with : T) where
           made_own = λ q own. theirs.made_own q own
               ∙ sym (entries_of_other q r.log e (not_mine q (λ g. other (sym own ∙ g))));
           no_others = theirs.no_others;
+          seen_own = λ q own. theirs.seen_own q own
+              ∙ sym (entries_of_other q r.log e (not_mine q (λ g. other (sym own ∙ g))));
           in_stage = subst (λ (z : ℕ). InStage made_with log' r.owner z j u u.stage) same
               (stage_on made_with r.log r.owner j u (next_of t made_with s r) e u.stage
               (λ i g ii. other (r.apart j id u v (length r.log) f at (g ∙ ap Some ii)
@@ -152,6 +155,9 @@ module _ {V C A T : Type 0} (t : Ghosts V C A T) (made_with : T) where
             let same_x : x ≡ x' = ap (λ (z : List (ℕ × Slot V C A)). held_or x z) f in
             let same_last : last ≡ last' = cc in (
               ap (λ (z : LastCall C A). (with_call v z, [])) same_last,
+              entries_of_both v.number v.seen v.mine e
+                  (ap (entries_of v.number) seen
+                  ∙ sym (live.made_own v.number (ap r.owner number ∙ owned))),
               λ all q. entries_of_both q v.seen v.mine e
                   (ap (entries_of q) seen ∙ all_own t made_with s r id v at lives all q),
             )),

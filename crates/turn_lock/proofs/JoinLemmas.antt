@@ -19,7 +19,7 @@ use Rattle.turn_lock.specs.Stages.{ticket_of, is_serving, is_spent, is_idle}
 use Rattle.turn_lock.specs.Views.{parts_at, joined_view, spent_view}
 use Rattle.turn_lock.specs.Rule.{tickets_out, parts_out, InStage, IsLive}
 use Rattle.turn_lock.proofs.PlaceLemmas.{At, same_there, at_below, sum_by-set_at}
-use Rattle.turn_lock.proofs.PrefixLemmas.{longer_prefix, longer_left, longer_right}
+use Rattle.turn_lock.proofs.PrefixLemmas.{all_between, longer_prefix, longer_left, longer_right}
 use Rattle.turn_lock.proofs.ShareLemmas.{parts_at-sum_of}
 use Rattle.turn_lock.proofs.StageLemmas.{idle_is, stage_owner}
 use Rattle.turn_lock.proofs.RuleLemmas.{St, Rule, next_of, ticket_in}
@@ -123,6 +123,10 @@ module _ {V C A T : Type 0} (t : Ghosts V C A T) (made_with : T) where
         no_others = λ q not_own. dite (ℕ_discrete (r.owner q) other)
             (λ is. absurd (not_own (heir_new r.owner id other q is)))
             (λ ne. of_mine q ne ∙ mine.no_others q (λ f. not_own (heir_same r.owner id other q ne ∙ f)));
+        seen_own = λ q own. dite (ℕ_discrete (r.owner q) other)
+            (λ is. all_between q w.seen (longer_of v.seen w.seen) r.log seen.2 seen.0 (theirs.seen_own q is))
+            (λ ne. all_between q v.seen (longer_of v.seen w.seen) r.log seen.1 seen.0
+            (mine.seen_own q (sym (heir_same r.owner id other q ne) ∙ own)));
         in_stage = (
           number,
           record {
@@ -150,6 +154,9 @@ module _ {V C A T : Type 0} (t : Ghosts V C A T) (made_with : T) where
         (λ n. l.made_own q (sym (heir_same r.owner id other q n) ∙ own));
     no_others = λ q not_own. l.no_others q
         (λ is. not_own (heir_same r.owner id other q (λ x. ne (sym is ∙ x)) ∙ is));
+    seen_own = λ q own. dite (ℕ_discrete (r.owner q) other)
+        (λ is. absurd (ne' (sym own ∙ heir_new r.owner id other q is)))
+        (λ n. l.seen_own q (sym (heir_same r.owner id other q n) ∙ own));
     in_stage = stage_owner made_with r.log r.owner j u (heir r.owner id other)
         (next_of t made_with s r) u.stage l.in_stage;
   }

@@ -1,10 +1,13 @@
 -- Beginnings of one list.
-use Rattle.std.proofs.Common.{◌≡◌, ◌+◌, ◌<◌, ◌≤◌, Bool, cond, List, [], ◌∷◌, ◌++◌, length, sym, refl, ap, subst, ◌∙◌, ⊎_elim, arith, append-nil, append_assoc, length-append}
+use Rattle.std.proofs.Common.{◌≡◌, ℕ, eqb, ◌+◌, ◌<◌, ◌≤◌, Bool, cond, List, [], ◌∷◌, ◌++◌, length, sym, refl, ap, subst, ◌∙◌, ⊎_elim, arith, append-nil, append_assoc, length-append}
 use mathlib.Core.List.{IsPrefix}
 use mathlib.Core.Logic.{dite}
 use native.Mathlib.Decide.{dec_le}
 use Rattle.std.proofs.lemmas.Bool.Decides.{leb_tells}
-use Rattle.turn_lock.specs.Histories.{longer_of}
+use Rattle.std.proofs.lemmas.List.{append_cancel_left}
+use Rattle.std.proofs.lemmas.List.Elements.{filter-append}
+use Rattle.turn_lock.specs.declared.view.Entry.{Entry}
+use Rattle.turn_lock.specs.Histories.{entries_of, longer_of}
 use Rattle.turn_lock.proofs.PlaceLemmas.{none_held}
 
 module _ {A : Type 0} where
@@ -30,6 +33,11 @@ module _ {A : Type 0} where
       let sum : length (xs ++ p.0) ≡ length xs + length p.0 = length-append xs p.0 in
       let none : p.0 ≡ [] = none_held p.0 (omega arith) in
       sym (append-nil xs) ∙ ap (λ (l : List A). xs ++ l) (sym none) ∙ p.1
+
+  -- an empty list alone begins one
+  pub prefix_nil : (xs h : List A) → IsPrefix xs h → h ≡ [] → xs ≡ []
+  prefix_nil [] h p empty = refl
+  prefix_nil (x ∷ xs) h p empty = let is : x ∷ (xs ++ p.0) ≡ [] = p.1 ∙ empty in absurd (cc)
 
   -- of two beginnings of one list the shorter begins the longer
   pub prefix_of_two : (xs ys h : List A) → IsPrefix xs h → IsPrefix ys h → length xs ≤ length ys
@@ -75,3 +83,32 @@ module _ {A : Type 0} where
   longer_right xs ys h p is = dite (dec_le (length ys) (length xs))
       (λ le. longer_first xs ys le ∙ prefix_whole xs h p (subst (λ (l : List A). length l ≤ length xs) is le))
       (λ gt. longer_second xs ys (omega arith) ∙ is)
+
+-- beginnings of a history, and the entries with a number
+module _ {C A : Type 0} (q : ℕ) where
+  entries_of-prefix : (xs h : List (Entry C A)) → IsPrefix xs h → IsPrefix (entries_of q xs) (entries_of q h)
+  entries_of-prefix xs h p = (
+    entries_of q p.0,
+    sym (filter-append (λ (z : Entry C A). eqb z.number q) xs p.0) ∙ ap (entries_of q) p.1,
+  )
+
+  -- where a history has none, no beginning of it has one
+  pub none_before : (xs h : List (Entry C A)) → IsPrefix xs h → entries_of q h ≡ [] → entries_of q xs ≡ []
+  none_before xs h p empty =
+      prefix_nil (entries_of q xs) (entries_of q h) (entries_of-prefix xs h p) empty
+
+  -- where a beginning has all, none stands behind it
+  pub none_after : (xs h : List (Entry C A)) → (p : IsPrefix xs h) → entries_of q xs ≡ entries_of q h
+      → entries_of q p.0 ≡ []
+  unfolding entries_of-prefix
+  none_after xs h p same = append_cancel_left (entries_of q xs) (entries_of q p.0) []
+      ((entries_of-prefix xs h p).1 ∙ sym same ∙ sym (append-nil (entries_of q xs)))
+
+  -- and a longer beginning has all
+  pub all_between : (xs ys h : List (Entry C A)) → IsPrefix xs ys → IsPrefix ys h
+      → entries_of q xs ≡ entries_of q h → entries_of q ys ≡ entries_of q h
+  all_between xs ys h p p' same =
+      let long : length (entries_of q xs) ≤ length (entries_of q ys) =
+      prefix_length (entries_of q xs) (entries_of q ys) (entries_of-prefix xs ys p) in
+      prefix_whole (entries_of q ys) (entries_of q h) (entries_of-prefix ys h p')
+      (subst (λ (l : List (Entry C A)). length l ≤ length (entries_of q ys)) same long)

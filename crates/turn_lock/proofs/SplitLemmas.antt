@@ -1,5 +1,5 @@
 -- Splitting a seat keeps the rule of the lock.
-use Rattle.std.proofs.Common.{◌≡◌, ℕ, subst, ◌+◌, ◌*◌, ◌-◌, ◌^◌, ◌≤◌, ◌≢◌, ◌⊎◌, true, false, List, [], ◌∷◌, ◌++◌, length, set, sym, refl, ap, ◌∙◌, inl, inr, ⊎_elim, arith, length-append, length-set, Some, None}
+use Rattle.std.proofs.Common.{◌≡◌, ℕ, subst, ◌+◌, ◌*◌, ◌-◌, ◌^◌, ◌<◌, ◌≤◌, ◌≢◌, ◌⊎◌, true, false, List, [], ◌∷◌, ◌++◌, length, set, sym, refl, ap, ◌∙◌, inl, inr, ⊎_elim, arith, length-append, length-set, Some, None}
 use mathlib.Core.Logic.{dite}
 use native.Mathlib.Decide.{ℕ_discrete, dec_lt}
 use lib.ListN.{get_elem?}
@@ -16,6 +16,7 @@ use Rattle.turn_lock.specs.Stages.{ticket_of, is_serving, is_spent, is_idle}
 use Rattle.turn_lock.specs.Views.{parts_at, kept_half, given_half}
 use Rattle.turn_lock.specs.Rule.{tickets_out, parts_out, InStage, IsLive}
 use Rattle.turn_lock.proofs.PlaceLemmas.{At, same_there, at_below, at_end, sum_by-set_at}
+use Rattle.turn_lock.proofs.PrefixLemmas.{none_before}
 use Rattle.turn_lock.proofs.StageLemmas.{idle_is, live_as}
 use Rattle.turn_lock.proofs.RuleLemmas.{Rule, next_of, ticket_in}
 
@@ -83,7 +84,7 @@ module _ {V C A T : Type 0} (t : Ghosts V C A T) (made_with : T) where
       (λ (z : Stage C A). InStage made_with r.log r.owner next id v z) st live.in_stage in
       let idle_left = subst (InStage made_with r.log r.owner next id l) (sym st) number in
       let live_left =
-      live_as made_with r.log r.owner id v l next next live refl refl refl live.has_seen idle_left in
+      live_as made_with r.log r.owner id v l next next live refl refl refl live.has_seen live.seen_own idle_left in
       let live_right : IsLive made_with r.log r.owner next n g = record {
         has_setting = live.has_setting;
         has_seen = live.has_seen;
@@ -94,7 +95,12 @@ module _ {V C A T : Type 0} (t : Ghosts V C A T) (made_with : T) where
             absurd (omega arith))
             (λ ge. sym (r.not_given q (omega arith)).1);
         no_others = λ q other. refl;
-        in_stage = tt;
+        seen_own = λ q own. dite (dec_lt q n)
+            (λ lt. let m = r.given q lt in let below = at_below s.views (r.owner q) m.0 m.1 in
+            absurd (omega arith))
+            (λ ge. let empty = (r.not_given q (omega arith)).1 in
+            none_before q v.seen r.log live.has_seen empty ∙ sym empty);
+        in_stage = (subst (λ (z : ℕ). z < n) (sym number) near, refl);
       } in record {
         log = r.log;
         owner = r.owner;

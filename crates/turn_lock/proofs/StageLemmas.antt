@@ -42,21 +42,24 @@ module _ {C A T : Type 0} (made_with : T) (log : List (Entry C A)) (owner : ℕ 
     owns_own = x.owns_own;
     made_own = x.made_own;
     no_others = x.no_others;
+    seen_own = x.seen_own;
     in_stage = stage_up next next' le v.stage x.in_stage;
   }
 
-  -- what a seat knows stays true where its setting, its entries and its parts stay
+  -- what a seat knows stays true where its setting, its entries and its parts stay, and it has seen its own
   pub live_as : (w : View C A T) (next next' : ℕ) → IsLive made_with log owner next n v
       → w.setting ≡ v.setting → w.mine ≡ v.mine → w.share.parts ≡ v.share.parts
-      → IsPrefix w.seen log → InStage made_with log owner next' n w w.stage
+      → IsPrefix w.seen log → ((q : ℕ) → owner q ≡ n → entries_of q w.seen ≡ entries_of q log)
+      → InStage made_with log owner next' n w w.stage
       → IsLive made_with log owner next' n w
-  live_as w next next' x setting mine parts seen stage = record {
+  live_as w next next' x setting mine parts seen own_seen stage = record {
     has_setting = setting ∙ x.has_setting;
     has_seen = seen;
     has_share = subst (λ (z : ℕ). 0 < z) (sym parts) x.has_share;
     owns_own = x.owns_own;
     made_own = λ q own. ap (entries_of q) mine ∙ x.made_own q own;
     no_others = λ q other. ap (entries_of q) mine ∙ x.no_others q other;
+    seen_own = own_seen;
     in_stage = stage;
   }
 

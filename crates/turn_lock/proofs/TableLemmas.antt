@@ -46,6 +46,7 @@ module _ {V C A T : Type 0} (t : Ghosts V C A T) (made_with : T) where
           owns_own = refl;
           made_own = λ q _. refl;
           no_others = λ q _. refl;
+          seen_own = λ q _. refl;
           in_stage = refl;
         };
     gone = λ j u e sp.

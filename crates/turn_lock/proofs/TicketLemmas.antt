@@ -15,7 +15,7 @@ use Rattle.turn_lock.specs.Views.{at_stage, with_seen, with_turn}
 use Rattle.turn_lock.specs.Rule.{tickets_out, InStage, StandsFor}
 use Rattle.turn_lock.specs.Steps.{Draws, Watches, Awaits}
 use Rattle.turn_lock.proofs.PlaceLemmas.{at_below, at_get}
-use Rattle.turn_lock.proofs.PrefixLemmas.{prefix_refl}
+use Rattle.turn_lock.proofs.PrefixLemmas.{prefix_refl, none_after}
 use Rattle.turn_lock.proofs.StageLemmas.{idle_is, ticket_lives, live_as, ticket_below}
 use Rattle.turn_lock.proofs.RuleLemmas.{St, M, Rule, table, next_of, ticket_in, tickets_out-set, no_turn, free_turn, whole_same, change, rest_live, loads, looks, stays, all_seen, all_own}
 use Rattle.turn_lock.proofs.RuleLemmas.{stage_at, Goes}
@@ -59,7 +59,7 @@ module _ {V C A T : Type 0} (t : Ghosts V C A T) (made_with : T) where
           is_legal = r.is_legal;
           home = λ none_now. r.home (no_turn t made_with s id v w at (ap is_serving st) none_now);
           live = live_as made_with r.log r.owner id v w
-              (next_of t made_with s r) next' live refl refl refl live.has_seen stage;
+              (next_of t made_with s r) next' live refl refl refl live.has_seen live.seen_own stage;
           others = λ j u _ e sp. rest_live t made_with s r next' (omega arith) j u e sp;
           apart = λ j u k _ e f f'.
               let is : y ≡ k = cc in
@@ -92,7 +92,7 @@ module _ {V C A T : Type 0} (t : Ghosts V C A T) (made_with : T) where
       let w : View C A T = with_seen v r.log in
       let waits = subst (InStage made_with r.log r.owner (next_of t made_with s r) id w) (sym st) stage in
       let live' = live_as made_with r.log r.owner id v w (next_of t made_with s r)
-      (next_of t made_with s r) live refl refl refl (prefix_refl r.log) waits in (
+      (next_of t made_with s r) live refl refl refl (prefix_refl r.log) (λ _ _. refl) waits in (
         w,
         keeps,
         tt,
@@ -139,8 +139,9 @@ module _ {V C A T : Type 0} (t : Ghosts V C A T) (made_with : T) where
       let words : set s.words 0 y ≡ s.words = set_again s.words 0 y (at_get s.words 0 0 (omega arith)) in
       let below : k < next' = subst (λ (z : ℕ). k < z) same stage.2 in
       let live' = live_as made_with r.log r.owner id v w
-      (next_of t made_with s r) next' live refl refl refl (prefix_refl r.log)
+      (next_of t made_with s r) next' live refl refl refl (prefix_refl r.log) (λ _ _. refl)
       (stage.0, is, refl, below) in
+      let own_seen = live.seen_own v.number (ap r.owner stage.0 ∙ live.owns_own) in
       let at_setting = λ (P : T → Type 0) (p : P made_with). subst P (sym live.has_setting) p in
       let kept : K (table t made_with s.words (set s.homes 0 none) (set s.views id w)) =
       change t made_with s r id v w s.words (set s.homes 0 none) r.log at refl refl record {
@@ -167,7 +168,11 @@ module _ {V C A T : Type 0} (t : Ghosts V C A T) (made_with : T) where
           (λ _. (
             r.log,
             ap (with_turn v r.log) ik,
-            live.has_seen,
+            (
+              live.has_seen.0,
+              live.has_seen.1,
+              none_after v.number v.seen r.log live.has_seen own_seen,
+            ),
             at_setting (λ z. t.legal z (calls_of r.log)) r.is_legal,
             (x, refl, at_setting (λ z. StandsFor t.legal t.stands t.setting z r.log x) home.2),
           )),

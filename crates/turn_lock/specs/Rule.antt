@@ -44,7 +44,7 @@ module _ {C A T : Type 0} (made_with : T) (log : List (Entry C A)) (owner : ℕ 
     (next n : ℕ) (v : View C A T) where
   -- what its stage says
   abbrev pub InStage : Stage C A → Type 0
-  InStage Fresh = Unit {0}
+  InStage Fresh = (v.number < n) × (v.mine ≡ [])
   InStage Idle = v.number ≡ n
   InStage (Waits ticket) = (v.number ≡ n) × (length log ≤ ticket) × (ticket < next)
   InStage (Serves ticket) =
@@ -66,6 +66,8 @@ module _ {C A T : Type 0} (made_with : T) (log : List (Entry C A)) (owner : ℕ 
     pub made_own : (q : ℕ) → owner q ≡ n → entries_of q v.mine ≡ entries_of q log
     -- of another number it has none
     pub no_others : (q : ℕ) → owner q ≢ n → entries_of q v.mine ≡ []
+    -- of a number that it owns, it has seen all entries of the history
+    pub seen_own : (q : ℕ) → owner q ≡ n → entries_of q v.seen ≡ entries_of q log
     -- its stage
     pub in_stage : InStage v.stage
 

@@ -1,5 +1,5 @@
 -- What contracts say of a lock and of its seats.
-use Rattle.std.specs.Prelude.{◌≡◌, ◌≢◌, ℕ, List, [], ◌∷◌, ◌++◌}
+use Rattle.std.specs.Prelude.{◌≡◌, ◌≢◌, ℕ, ◌<◌, List, [], ◌∷◌, ◌++◌}
 use mathlib.Core.List.{IsPrefix}
 use Rattle.turn_lock.specs.declared.value.Turn.{Ghosts}
 use Rattle.turn_lock.specs.declared.view.Entry.{Entry}
@@ -8,7 +8,7 @@ use Rattle.turn_lock.specs.declared.view.View.{View}
 use Rattle.turn_lock.specs.declared.seat.Seat.{Seat}
 use Rattle.turn_lock.specs.declared.seat.TurnLock.{TurnLock}
 use Rattle.turn_lock.specs.Histories.{entry, calls_of, entries_of, longer_of}
-use Rattle.turn_lock.specs.Views.{IsWhole, HasAll, half_of, sum_of}
+use Rattle.turn_lock.specs.Views.{IsWhole, HasAll, HasOwn, half_of, sum_of}
 
 module _ {V C A T : Type 0} {g : Ghosts V C A T} where
   -- what the seat knows
@@ -76,8 +76,12 @@ module _ {V C A T : Type 0} {g : Ghosts V C A T} where
       : Type 0 where
     -- other seats may have made calls since
     pub others : List (Entry C A)
+    -- none of these entries has its number
+    pub none_own : entries_of (number_of old) others ≡ []
     pub seen : seen_of new ≡ (seen_of old ++ others) ++ entry (number_of old) call answer ∷ []
     pub mine : mine_of new ≡ mine_of old ++ entry (number_of old) call answer ∷ []
+    -- of the entries with its number it has seen its own, and no more
+    pub own : HasOwn (view_of new)
 
   -- the seat keeps all but half of its share
   pub record KeepsHalf (old new : Seat V C A T g) : Type 0 where
@@ -95,6 +99,9 @@ module _ {V C A T : Type 0} {g : Ghosts V C A T} where
     pub same_seen : seen_of child ≡ seen_of parent
     pub none_made : mine_of child ≡ []
     pub half_share : share_of child ≡ half_of (share_of parent)
+    -- its number is a new one: above its parent's, and no entry has it
+    pub later_number : number_of parent < number_of child
+    pub none_seen : entries_of (number_of child) (seen_of child) ≡ []
 
   -- the seat knows what it and the other knew, and has both shares
   pub record TakesIn (old other new : Seat V C A T g) : Type 0 where

@@ -1,5 +1,5 @@
 -- What each step tells the seat that makes it.
-use Rattle.std.specs.Prelude.{◌≡◌, ◌≢◌, ℕ, List, [], ◌∷◌, ◌⊎◌, length, Some, None}
+use Rattle.std.specs.Prelude.{◌≡◌, ◌≢◌, ℕ, ◌<◌, List, [], ◌∷◌, ◌++◌, ◌⊎◌, length, Some, None}
 use mathlib.Core.List.{IsPrefix}
 use Rattle.atomic_table.specs.Table.{Me, Step}
 use Rattle.turn_lock.specs.declared.view.Entry.{Entry}
@@ -8,8 +8,8 @@ use Rattle.turn_lock.specs.declared.view.Stage.TheVariants.{Fresh, Idle, Waits, 
 use Rattle.turn_lock.specs.declared.view.View.{View}
 use Rattle.turn_lock.specs.declared.view.LastCall.{LastCall}
 use Rattle.turn_lock.specs.declared.view.Locked.{Locked}
-use Rattle.turn_lock.specs.Histories.{calls_of}
-use Rattle.turn_lock.specs.Views.{IsWhole, HasAll, at_stage, with_seen, with_turn, with_call, with_number}
+use Rattle.turn_lock.specs.Histories.{calls_of, entries_of}
+use Rattle.turn_lock.specs.Views.{IsWhole, HasAll, HasOwn, at_stage, with_seen, with_turn, with_call, with_number}
 use Rattle.turn_lock.specs.Rule.{Slot, StandsFor, WereApart}
 
 -- a seat as the steps see it: its view, and the slots that it holds
@@ -19,6 +19,11 @@ Seated V C A T = Me (Slot V C A) (View C A T)
 -- the value is in the slot, and stands for all that such a seat has seen
 abbrev pub MayClose : {C A T : Type 0} → View C A T → Type 0
 MayClose v = ((v.stage ≡ Idle) × IsWhole v.share) ⊎ (v.stage ≡ Waits (length v.seen))
+
+-- the history goes on from what the seat had seen, and no entry since then has its number
+abbrev pub GoesOn : {C A T : Type 0} → View C A T → List (Entry C A) → Type 0
+GoesOn {C} {A} {T} v h = (others : List (Entry C A)) × (v.seen ++ others ≡ h)
+    × (entries_of v.number others ≡ [])
 
 module _ {V C A T : Type 0} where
   -- the seat has the turn, and gave no value back
@@ -45,12 +50,13 @@ module _ {V C A T : Type 0} where
   abbrev pub Advances : Step (Slot V C A) → Seated V C A T → ℕ → Seated V C A T → Type 0
   Advances step old found new = (x : Locked V C A) (last : LastCall C A)
       → old.1 ≡ (0, Some x) ∷ [] → x.last ≡ Some last
-      → (new ≡ (with_call old.0 last, [])) × (IsWhole old.0.share → HasAll new.0)
+      → (new ≡ (with_call old.0 last, [])) × HasOwn new.0 × (IsWhole old.0.share → HasAll new.0)
 
-  -- learn the number: a seat that was split off has one
+  -- learn the number: a seat that was split off has one above its parent's, which no entry seen has
   abbrev pub Learns : Step (Slot V C A) → Seated V C A T → ℕ → Seated V C A T → Type 0
   Learns step old found new =
       old.0.stage ≡ Fresh → (number : ℕ) × (new ≡ (with_number old.0 number, old.1))
+      × (old.0.number < number) × (entries_of number old.0.seen ≡ [])
 
 module _ {V C A T : Type 0} (legal : T → List (C × A) → Type 0) where
   -- settle: what is so of two seats of which one was joined into the other
@@ -64,7 +70,7 @@ module _ {V C A T : Type 0} (legal : T → List (C × A) → Type 0)
   -- the ticket is served: the history is seen, and the seat holds the value, which stands for it
   abbrev pub TakesTurn : ℕ → Seated V C A T → Seated V C A T → Type 0
   TakesTurn ticket old new = (h : List (Entry C A)) × (new.0 ≡ with_turn old.0 h ticket)
-      × IsPrefix old.0.seen h × legal old.0.setting (calls_of h)
+      × GoesOn old.0 h × legal old.0.setting (calls_of h)
       × ((x : Locked V C A) × (new.1 ≡ (0, Some x) ∷ old.1)
       × StandsFor legal stands setting old.0.setting h x)
 
@@ -76,6 +82,6 @@ module _ {V C A T : Type 0} (legal : T → List (C × A) → Type 0)
   -- the seat has the turn, and the value in hand
   abbrev pub HasValue : Seated V C A T → V → Seated V C A T → Type 0
   HasValue old value new = (ticket : ℕ) × (h : List (Entry C A))
-      × (new ≡ (with_turn old.0 h ticket, (0, None) ∷ [])) × IsPrefix old.0.seen h
+      × (new ≡ (with_turn old.0 h ticket, (0, None) ∷ [])) × GoesOn old.0 h
       × legal old.0.setting (calls_of h) × stands value (calls_of h)
       × (setting value ≡ old.0.setting)

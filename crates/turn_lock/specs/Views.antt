@@ -71,11 +71,11 @@ module _ {C A T : Type 0} where
   abbrev pub kept_half : View C A T → View C A T
   kept_half v = record v { share = half_of v.share }
 
-  -- what the seat has that was split off
+  -- what the seat has that was split off: its parent's number, until it is told its own
   abbrev pub given_half : View C A T → View C A T
   given_half v = record {
     setting = v.setting;
-    number = 0;
+    number = v.number;
     seen = v.seen;
     mine = [];
     share = half_of v.share;
@@ -115,3 +115,7 @@ module _ {C A T : Type 0} where
   -- for each number, the entries with it that were seen are, in order, those with it among its own
   abbrev pub HasAll : View C A T → Type 0
   HasAll v = (number : ℕ) → entries_of number v.seen ≡ entries_of number v.mine
+
+  -- the entries with its own number that were seen are, in order, those with it among its own
+  abbrev pub HasOwn : View C A T → Type 0
+  HasOwn v = entries_of v.number v.seen ≡ entries_of v.number v.mine

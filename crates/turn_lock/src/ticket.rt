@@ -3,7 +3,7 @@ ghost use Rattle.std.specs.Prelude.{◌≡◌, []};
 ghost use Rattle.turn_lock.specs.declared.view.Stage.TheVariants.{Waits};
 ghost use Rattle.turn_lock.specs.Histories.{calls_of};
 ghost use Rattle.turn_lock.specs.Stages.{IsIdle};
-ghost use Rattle.turn_lock.specs.Views.{IsWhole, HasAll, at_stage, with_call};
+ghost use Rattle.turn_lock.specs.Views.{IsWhole, HasAll, HasOwn, at_stage, with_call};
 ghost use Rattle.turn_lock.specs.Steps.{HoldsTurn, TakesTurn, HasValue, Reaches};
 
 use crate::seat::TurnLock;
@@ -58,6 +58,7 @@ impl<V: Turn> TurnLock<V> {
         requires setting { V.setting value ≡ inner.old.me.0.setting }
         ensures lock { inner.new.table_id ≡ inner.old.table_id }
         ensures entered { inner.new.me ≡ (with_call inner.old.me.0 last, []) }
+        ensures own { HasOwn inner.new.me.0 }
         ensures whole { IsWhole inner.old.me.0.share → HasAll inner.new.me.0 }
     {
         let shared = &self.table.shared;

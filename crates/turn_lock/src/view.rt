@@ -36,7 +36,7 @@ pub struct Merge<C, A> {
 
 /// What a seat is about to do.
 pub enum Stage<C, A> {
-    /// It was split off, and was not told its number yet.
+    /// It was split off, and was not told its number yet: it has its parent's.
     Fresh,
     /// It is between two calls.
     Idle,

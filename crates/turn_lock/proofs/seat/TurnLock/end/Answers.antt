@@ -35,6 +35,17 @@ returns-clause-entered g c =
     (c.fetch_add-served.ensures.2 x c.args.last (ap (λ m. m.1) given) refl).0
     ∙ ap (λ m. (with_call m.0 c.args.last, [])) given
 
+pub returns-clause-own : goal.returns-clause-own
+returns-clause-own g c =
+    let x : Locked g.row.V.Denot g.row.V-Call.Denot g.row.V-Answer.Denot = record {
+      value = c.args.value;
+      last = Some c.args.last;
+    } in
+    let v = c.args.inner.now.me.0 in
+    let given : c.exchange.new.seat.me ≡ (v, (0, Some x) ∷ []) =
+    c.exchange.ensures.3 ∙ (λ i. (v, (0, Some x) ∷ ap rest c.requires.turn.2 i)) in
+    (c.fetch_add-served.ensures.2 x c.args.last (ap (λ m. m.1) given) refl).1
+
 pub returns-clause-whole : goal.returns-clause-whole
 returns-clause-whole g c =
     let x : Locked g.row.V.Denot g.row.V-Call.Denot g.row.V-Answer.Denot = record {
@@ -45,4 +56,4 @@ returns-clause-whole g c =
     let given : c.exchange.new.seat.me ≡ (v, (0, Some x) ∷ []) =
     c.exchange.ensures.3 ∙ (λ i. (v, (0, Some x) ∷ ap rest c.requires.turn.2 i)) in
     let entered = c.fetch_add-served.ensures.2 x c.args.last (ap (λ m. m.1) given) refl in
-    λ all. entered.1 (subst (λ m. IsWhole m.0.share) (sym given) all)
+    λ all. entered.2 (subst (λ m. IsWhole m.0.share) (sym given) all)
