@@ -1,12 +1,15 @@
 -- What is read of an acknowledgement that was written, and of a message that was encoded.
-use Rattle.std.proofs.Common.{◌≡◌, ◌⊎◌, inl, inr, ℕ, ℤ, ◌+◌, ◌^◌, ◌<◌, true, pos, nat_abs, List, ◌++◌, length, length-append, length-drop, take-append-drop, drop, slice_range, Result, Ok, Err, All, FitsSigned, IsUtf8, to_z, of_z, refl, sym, ap, ◌∙◌, subst, arith}
-use Rattle.std.specs.Prelude.{int_lt}
+use Rattle.std.proofs.Common.{◌≡◌, ◌⊎◌, inl, inr, ℕ, ℤ, ◌+◌, ◌^◌, ◌<◌, true, pos, nat_abs, List, [], ◌∷◌, ◌++◌, length, length-append, length-drop, take-append-drop, drop, slice_range, Result, Ok, Err, All, IsUtf8, to_z, of_z, refl, sym, ap, ◌∙◌, subst, arith, ltb-true}
+use Rattle.std.specs.Prelude.{int_lt, nat_lt, IsAscii}
+use Rattle.std.specs.List.{list_all}
 use Rattle.std.specs.Int.{w32, w64, to_be_bytes, cast_unsigned}
 use Rattle.std.proofs.lemmas.Int.{ints, to_z-of_z}
 use Rattle.std.proofs.lemmas.List.{get_or_append_left, get_or-append-add}
 use Rattle.std.proofs.lemmas.List.Elements.{All-same, All-append}
-use Rattle.json.proofs.Printed.Utf8.{IsUtf8-are_ascii}
 use Rattle.std.proofs.lemmas.List.{take_all}
+use Rattle.std.proofs.lemmas.Bool.{and_parts}
+use Rattle.std.proofs.lemmas.Str.{IsUtf8-from_ascii}
+use Rattle.std.proofs.lemmas.Str.Ascii.{IsAscii-nil, IsAscii-cons}
 use Rattle.chan_io.specs.declared.side.Side.{Side}
 use Rattle.chan_io.specs.declared.side.Side.TheVariants.{Plugin, Agent}
 use Rattle.chan_io.specs.Sides.{other}
@@ -19,7 +22,7 @@ use Rattle.channel_core.specs.Arrival.{Answer, Arrives, Hears, IsAnswer, UnlessN
 use Rattle.channel_core.specs.Exchange.{incoming_of}
 use Rattle.channel_core.specs.declared.hearing.Incoming.TheVariants as Incoming
 use Rattle.channel_core.specs.declared.pulling.Outgoing.{Outgoing}
-use Rattle.channel_core.proofs.WireLemmas.{length-payload}
+use Rattle.channel_core.proofs.WireLemmas.{fits_signed, length-payload}
 use Rattle.channel_core.specs.declared.wire.refusal.InRefusal.TheVariants as InRefusal
 use Rattle.agent_message.specs.declared.message.Message.{Message}
 use Rattle.json_bodies.specs.Ack.{IsWritableAck}
@@ -27,12 +30,15 @@ use Rattle.channel_core.specs.Wire.{IsEncodable, ack_body, ack_message, data_nam
 
 -- ---- the body of an acknowledgement
 
-fits_signed : (seq : ℕ) → seq < 2 ^ 63 → FitsSigned w64 (pos seq)
-fits_signed seq small = record { sfits = small }
+-- a text of small bytes is ASCII
+IsAscii-from_test : (text : List ℕ) → list_all (λ byte. nat_lt byte 128) text ≡ true → IsAscii text
+IsAscii-from_test [] all = IsAscii-nil
+IsAscii-from_test (byte ∷ text) all =
+    let both = and_parts _ _ all in IsAscii-cons byte text (ltb-true _ _ both.0) (IsAscii-from_test text both.1)
 
 IsUtf8-data_name : (side : Side) → IsUtf8 (data_name side)
-IsUtf8-data_name Plugin = IsUtf8-are_ascii _ refl
-IsUtf8-data_name Agent = IsUtf8-are_ascii _ refl
+IsUtf8-data_name Plugin = IsUtf8-from_ascii _ (IsAscii-from_test (data_name Plugin) refl)
+IsUtf8-data_name Agent = IsUtf8-from_ascii _ (IsAscii-from_test (data_name Agent) refl)
 
 pub IsWritableAck-ack_body : (side : Side) (seq : ℕ) (id : List ℕ) → seq < 2 ^ 63 → length id ≡ 16 → All (λ byte. byte < 256) id
     → IsWritableAck (ack_body side seq id)

@@ -1,5 +1,6 @@
 pub mod AckLemmas
 pub mod ChannelClosedLemmas
+pub mod LengthLemmas
 pub mod MemberLemmas
 pub mod ReadingLemmas
 pub mod SizeLemmas

@@ -7,6 +7,7 @@
 mod ack;
 mod body_fault;
 mod channel_closed;
+pub mod laws;
 mod member;
 mod reading;
 mod size;
