@@ -12,10 +12,10 @@ ghost use Rattle.agent_message.specs.declared.refusal.Refusal.{Refusal};
 
 use crate::encoding::{HEADER_LENGTH, PAYLOAD_START};
 use crate::field::{array_at, i64_at, id_at, u32_at, u64_at};
-use crate::message::{MAX_PAYLOAD, Message};
+use crate::message::Message;
 use crate::name::Name;
 use crate::refusal::Refusal;
-use chan_io::Bytes;
+use chan_values::{Bytes, MAX_PAYLOAD};
 use sha2::{Digest, Sha256};
 use std::alloc::Global;
 

@@ -1,11 +1,12 @@
 //! A message as bytes.
 
 ghost use Rattle.std.specs.Prelude.{◌≡◌, ◌<◌, ◌≤◌, ◌⊎◌, IfOk, length};
+ghost use Rattle.chan_values.specs.Limits.{max_payload};
 ghost use Rattle.agent_message.specs.Layout.{canonical, IsEncodable};
 ghost use Rattle.agent_message.specs.Names.{IsPublication};
 
-use crate::message::{MAX_PAYLOAD, Message};
-use chan_io::NoMemory;
+use crate::message::Message;
+use chan_values::NoMemory;
 use sha2::{Digest, Sha256};
 use std::alloc::Global;
 
@@ -17,7 +18,7 @@ pub(crate) const PAYLOAD_START: usize = 120;
 
 /// The bytes of one message: the name filled up with spaces, and the digest of the payload.
 pub fn encode(alloc: Global, message: &Message) -> Result<Vec<u8>, NoMemory>
-    requires sized { length message.now.payload ≤ MAX_PAYLOAD }
+    requires sized { length message.now.payload ≤ max_payload }
     requires dated { (0 < message.now.date) ⊎ IsPublication message.now.name }
     ensures canonical { IfOk result (λ bytes. bytes.items ≡ canonical message.now) }
     ensures encodable { IfOk result (λ _. IsEncodable message.now) }

@@ -4,16 +4,15 @@
 mod decoding;
 mod encoding;
 mod field;
-mod item;
 pub mod laws;
 mod message;
 mod name;
 mod refusal;
 
+pub use chan_values::{Item, Items, MAX_PAYLOAD};
 pub use decoding::decode;
 pub use encoding::encode;
-pub use item::{Item, Items};
-pub use message::{MAX_PAYLOAD, Message};
+pub use message::Message;
 pub use name::{MAX_NAME, Name};
 pub use refusal::Refusal;
 

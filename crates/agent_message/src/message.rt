@@ -1,10 +1,7 @@
 //! The binary message of the data channel.
 
 use crate::name::Name;
-use chan_io::Bytes;
-
-/// The greatest payload of a message, in bytes.
-pub const MAX_PAYLOAD: usize = 65_536;
+use chan_values::Bytes;
 
 /// One message of the data channel (AWS Session Manager binary message; big-endian).
 #[derive(Debug, Drop)]

@@ -1,7 +1,7 @@
 ghost use Rattle.std.specs.Prelude.{◌<◌};
 
 use super::*;
-use chan_io::Bytes;
+use chan_values::Bytes;
 use std::alloc::Global;
 use std::test::Fail;
 

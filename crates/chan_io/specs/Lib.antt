@@ -1,4 +1,3 @@
 pub mod Faults
-pub mod Sides
 pub mod Sinks
 pub mod Sources

@@ -4,27 +4,22 @@
 //! of its calls failed. The code above is generic and is proved once, for every such object.
 #![tactic(auto)]
 
-mod bytes;
 mod discard_sink;
 mod failed;
 mod faulty_sink;
 mod faulty_source;
 mod fill;
-mod side;
 mod sink;
 mod source;
 mod steady_source;
 #[cfg(test)]
 mod tests;
-mod text;
 
-pub use bytes::Bytes;
+pub use chan_values::{Bytes, NoMemory, Side, Text, Word};
 pub use discard_sink::DiscardSink;
-pub use failed::{Failed, NoMemory};
+pub use failed::{Failed, IoFault};
 pub use faulty_sink::FaultySink;
 pub use faulty_source::FaultySource;
-pub use side::Side;
 pub use sink::Sink;
 pub use source::Source;
 pub use steady_source::SteadySource;
-pub use text::{Text, Word};

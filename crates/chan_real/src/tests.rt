@@ -1,5 +1,6 @@
 use crate::{StreamSink, StreamSource};
-use chan_io::{Sink, Source, Text};
+use chan_io::{Sink, Source};
+use chan_values::Text;
 use std::test::Fail;
 
 #[test]

@@ -4,7 +4,7 @@ use Rattle.std.specs.Option.{option_and_then, option_map}
 use Rattle.std.proofs.lemmas.Grind.{fold-append}
 use Rattle.std.proofs.lemmas.Bool.{and_right, both_ways, cases_eq, eq-eqb, false_from_ne_true, ne_eqb}
 use Rattle.std.proofs.lemmas.List.{append-nil}
-use Rattle.agent_message.specs.declared.item.Item.{Item}
+use Rattle.chan_values.specs.declared.item.Item.{Item}
 use Rattle.resend_queue.specs.Queue.{Pending, QueueState, first_number, moment_of, without_number}
 use Rattle.resend_queue.specs.RoundTrips.{RoundTrip, after_sample, after_samples, no_sample}
 use Rattle.receive_window.specs.Window.{item_with}

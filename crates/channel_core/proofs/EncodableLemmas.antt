@@ -5,8 +5,8 @@ use Rattle.std.proofs.lemmas.Bool.{cond_both, eqb-false}
 use Rattle.std.proofs.lemmas.List.{append-nil, length_push}
 use Rattle.std.proofs.lemmas.List.Elements.{All-drop, All-head, All-nil, All-push}
 use Rattle.std.proofs.lemmas.Option.{get_or_from_slice_get}
-use Rattle.agent_message.specs.declared.item.Item.{Item}
-use Rattle.agent_message.specs.declared.message.TheConstants.{MAX_PAYLOAD}
+use Rattle.chan_values.specs.declared.item.Item.{Item}
+use Rattle.chan_values.specs.Limits.{max_payload}
 use Rattle.channel_core.specs.declared.call.EndAnswer.{EndAnswer}
 use Rattle.channel_core.specs.declared.call.EndCall.{EndCall}
 use Rattle.channel_core.specs.declared.pulling.Outgoing.{Outgoing}
@@ -39,7 +39,7 @@ put_room w h item n =
 
 -- the message has a date, and its payload fits
 abbrev Fits : Message → Type 0
-Fits m = (0 < m.date) × (length m.item.payload ≤ MAX_PAYLOAD)
+Fits m = (0 < m.date) × (length m.item.payload ≤ max_payload)
 
 -- the number fits
 abbrev IsSmall : ℕ × List ℕ → Type 0

@@ -1,7 +1,7 @@
 -- What the definitions give for short histories, by computation alone.
 use Rattle.std.proofs.Common.{◌≡◌, ℕ, List, [], ◌∷◌, ◌++◌, refl}
 use Rattle.std.specs.List.{fold}
-use Rattle.agent_message.specs.declared.item.Item.{Item}
+use Rattle.chan_values.specs.declared.item.Item.{Item}
 use Rattle.resend_queue.specs.RoundTrips.{after_samples}
 use Rattle.channel_core.specs.declared.call.EndAnswer.{EndAnswer}
 use Rattle.channel_core.specs.declared.call.EndCall.{EndCall}

@@ -5,7 +5,7 @@ use Rattle.std.proofs.lemmas.Grind.{flat_map-append, fold-append}
 use Rattle.std.proofs.lemmas.List.{append-nil, map-append}
 use Rattle.std.proofs.lemmas.List.Elements.{filter_map-append}
 use Rattle.std.proofs.lemmas.List.Folds.{list_any-append}
-use Rattle.agent_message.specs.declared.item.Item.{Item}
+use Rattle.chan_values.specs.declared.item.Item.{Item}
 use Rattle.channel_core.specs.Call.{Entry, earlier_from, with_earlier}
 use Rattle.channel_core.specs.History.{Message, acked_numbers, closes, emissions, is_closed, is_paused, is_up, item_taken, items_released, message_emitted, message_put, number_acked, owed_acks, owed_after, paused_after, put_items, put_messages, released_items, taken_items, up_after}
 use Rattle.channel_core.specs.Resending.{marked_after, marked_due, number_transmitted, round_trip_samples, sample_of, sent_after, sent_since_opened, transmissions}

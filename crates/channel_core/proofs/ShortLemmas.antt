@@ -4,9 +4,9 @@ use Rattle.std.specs.List.{cons_option, count_by, filter, filter_map}
 use Rattle.std.proofs.lemmas.List.{append-nil}
 use Rattle.std.proofs.lemmas.List.Elements.{filter_map-append}
 use Rattle.std.proofs.lemmas.List.Sums.{sum_by-append, sum_by-cons}
-use Rattle.chan_io.specs.declared.side.Side.{Side}
-use Rattle.chan_io.specs.declared.side.Side.TheVariants.{Plugin, Agent}
-use Rattle.chan_io.specs.Sides.{other}
+use Rattle.chan_values.specs.declared.side.Side.{Side}
+use Rattle.chan_values.specs.declared.side.Side.TheVariants.{Plugin, Agent}
+use Rattle.chan_values.specs.Sides.{other}
 use Rattle.channel_core.specs.declared.call.EndAnswer.{EndAnswer}
 use Rattle.channel_core.specs.declared.call.EndCall.{EndCall}
 use Rattle.channel_core.specs.declared.pulling.Outgoing.{Outgoing}

@@ -1,9 +1,9 @@
 -- The body of an acknowledgement fits into a message.
 use Rattle.std.proofs.Common.{ℕ, ◌^◌, ◌<◌, ◌≤◌, pos, length, FitsSigned, arith}
 use Rattle.std.specs.Int.{w64}
-use Rattle.chan_io.specs.declared.side.Side.{Side}
-use Rattle.chan_io.specs.declared.side.Side.TheVariants.{Plugin, Agent}
-use Rattle.chan_io.specs.Sides.{other}
+use Rattle.chan_values.specs.declared.side.Side.{Side}
+use Rattle.chan_values.specs.declared.side.Side.TheVariants.{Plugin, Agent}
+use Rattle.chan_values.specs.Sides.{other}
 use Rattle.json_bodies.proofs.LengthLemmas.{length-ack_text}
 use Rattle.channel_core.specs.Wire.{ack_body, data_name, message_of, IsEncodable}
 use Rattle.channel_core.specs.declared.pulling.Outgoing.{Outgoing}

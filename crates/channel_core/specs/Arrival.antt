@@ -1,9 +1,9 @@
 -- What bytes are to the end that they come to, by the message that they spell and by its name.
 use Rattle.std.specs.Prelude.{◌≡◌, ◌⊎◌, ◌<ℤ◌, pos, List, ℕ, codes, Result, Ok, Err}
-use Rattle.chan_io.specs.declared.side.Side.{Side}
-use Rattle.chan_io.specs.Sides.{other}
+use Rattle.chan_values.specs.declared.side.Side.{Side}
+use Rattle.chan_values.specs.Sides.{other}
 use Rattle.agent_message.specs.Decoding.{Decodes}
-use Rattle.agent_message.specs.declared.item.Item.{Item}
+use Rattle.chan_values.specs.declared.item.Item.{Item}
 use Rattle.agent_message.specs.declared.message.Message.{Message}
 use Rattle.agent_message.specs.declared.refusal.Refusal.{Refusal}
 use Rattle.json_bodies.specs.Ack.{IsAckBody, ack_faults}

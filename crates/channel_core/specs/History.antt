@@ -1,7 +1,7 @@
 -- What one end did, read off the list of its calls with their answers. Nothing else is kept.
 use Rattle.std.specs.Prelude.{ℕ, max, Bool, true, false, not, ◌||◌, Option, Some, None, List, [], ◌∷◌, ◌++◌, map, drop, length, if◌then◌else◌, nat_eq, nat_lt}
 use Rattle.std.specs.List.{filter, filter_map, flat_map, fold, list_any, range_with_len}
-use Rattle.agent_message.specs.declared.item.Item.{Item}
+use Rattle.chan_values.specs.declared.item.Item.{Item}
 use Rattle.channel_core.specs.declared.call.EndAnswer.{EndAnswer}
 use Rattle.channel_core.specs.declared.call.EndCall.{EndCall}
 use Rattle.channel_core.specs.declared.hearing.Heard.TheVariants as Heard

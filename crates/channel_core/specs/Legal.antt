@@ -1,7 +1,7 @@
 -- Which answer each call gets after the entries before it, and which histories there may be.
 use Rattle.std.specs.Prelude.{◌≡◌, ℕ, ◌+◌, ◌-◌, ◌^◌, max, Bool, not, ◌&&◌, ◌||◌, ◌⊎◌, Option, Some, None, List, [], ◌∷◌, ◌++◌, length, if◌then◌else◌, nat_eq, nat_le, nat_lt, slice_get}
 use Rattle.std.specs.List.{All}
-use Rattle.agent_message.specs.declared.item.Item.{Item}
+use Rattle.chan_values.specs.declared.item.Item.{Item}
 use Rattle.receive_window.specs.Window.{items_in_order}
 use Rattle.channel_core.specs.declared.call.EndAnswer.{EndAnswer}
 use Rattle.channel_core.specs.declared.call.EndCall.{EndCall}

@@ -1,7 +1,7 @@
 -- Numbers in a list, and the least one that is missing.
 use Rattle.std.specs.Prelude.{ℕ, ◌+◌, zero, suc, Bool, not, Option, Some, None, List, map, if◌then◌else◌, nat_eq, unwrap_or}
 use Rattle.std.specs.List.{list_any, sum}
-use Rattle.agent_message.specs.declared.item.Item.{Item}
+use Rattle.chan_values.specs.declared.item.Item.{Item}
 
 -- whether the number is in the list
 abbrev pub has_number : List ℕ → ℕ → Bool

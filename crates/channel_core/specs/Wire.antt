@@ -1,9 +1,9 @@
 -- What an end sends as bytes. The names, flags and bodies are those of AWS Session Manager's channel.
 pub use Rattle.channel_core.specs.Encodable.{IsEncodable}
 use Rattle.std.specs.Prelude.{ℕ, ◌==◌, if◌then◌else◌, pos, true, List, codes}
-use Rattle.chan_io.specs.declared.side.Side.{Side}
-use Rattle.chan_io.specs.declared.side.Side.TheVariants.{Plugin, Agent}
-use Rattle.chan_io.specs.Sides.{other}
+use Rattle.chan_values.specs.declared.side.Side.{Side}
+use Rattle.chan_values.specs.declared.side.Side.TheVariants.{Plugin, Agent}
+use Rattle.chan_values.specs.Sides.{other}
 use Rattle.agent_message.specs.declared.message.Message.{Message}
 use Rattle.agent_message.specs.Layout.{canonical}
 use Rattle.json_bodies.specs.declared.ack.Ack.{Ack}

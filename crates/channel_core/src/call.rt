@@ -1,7 +1,7 @@
 //! The calls of an end and their answers as values, of which histories are made.
 
 use crate::{Heard, Incoming, Look, Pull, Put, Tick};
-use agent_message::Item;
+use chan_values::Item;
 
 /// A call of an end with its arguments. Moments are milliseconds.
 #[derive(Debug, Drop)]

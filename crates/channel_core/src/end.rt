@@ -15,6 +15,7 @@
 //! ```
 
 ghost use Rattle.std.specs.Prelude.{◌≡◌, ◌≤◌, ◌<◌, ◌^◌, ℕ, false, [], IfOk, length};
+ghost use Rattle.chan_values.specs.Limits.{max_payload, max_window};
 ghost use Rattle.channel_core.specs.Encodable.{IfEmitted, IsEncodable};
 ghost use Rattle.channel_core.specs.Stands.{Follows, IsNumbered, Stands};
 ghost use Rattle.channel_core.specs.declared.call.EndAnswer.TheVariants as EndAnswer;
@@ -23,8 +24,7 @@ ghost use Rattle.channel_core.specs.declared.hearing.Incoming.TheVariants as Inc
 
 use crate::owed::owe;
 use crate::{Heard, Incoming, Look, Outgoing, Pull, Put, Tick};
-use agent_message::{Item, MAX_PAYLOAD};
-use chan_io::{NoMemory, Side};
+use chan_values::{Item, NoMemory, Side};
 use receive_window::{Take, Window};
 use resend_queue::{Estimate, Kept, Mark, Out, Queue};
 use std::alloc::Global;
@@ -47,6 +47,7 @@ pub struct End {
 impl Model for End {
     ghost use Rattle.std.specs.Prelude.{◌≡◌, ◌≤◌, ◌<◌, ◌^◌, All};
     ghost use Rattle.std.specs.VecDeque.{deque_capacity};
+    ghost use Rattle.chan_values.specs.Limits.{max_payload, max_window};
     ghost use Rattle.channel_core.specs.Encodable.{IfEmitted, IsEncodable};
     ghost use Rattle.channel_core.specs.Stands.{EndState};
 
@@ -73,7 +74,7 @@ impl End {
     /// `wire::outgoing` and `wire::incoming` are told it.
     pub fn new(alloc: Global, _side: Side, window: u64) -> Result<End, NoMemory>
         requires low { 1 ≤ window }
-        requires high { window ≤ 10000 }
+        requires high { window ≤ max_window }
         ensures { IfOk result (λ end. Stands window end []) }
     {
         Ok(End {
@@ -113,7 +114,7 @@ impl End {
 
     /// Puts in an item of the user with a MessageId.
     pub fn put(&mut self, item: Item, id: [u8; 16], now: u64) -> Put
-        requires { length item.payload ≤ MAX_PAYLOAD }
+        requires { length item.payload ≤ max_payload }
         ensures { Follows self.old self.new (EndCall.Put item id now) (EndAnswer.Put result) }
     {
         if self.closed {

@@ -1,7 +1,6 @@
 //! What comes in at an end, and what becomes of it.
 
-use agent_message::{Item, Items};
-use chan_io::Text;
+use chan_values::{Item, Items, Text};
 
 /// A message as an end hears it. The other end sends the first two, the relay the others.
 #[derive(Debug, Drop)]

@@ -1,6 +1,6 @@
 //! What becomes of an item that is put in.
 
-use agent_message::Item;
+use chan_values::Item;
 
 /// The number of a new stream message, or why the item was not taken. It is handed back then.
 #[derive(Debug, Drop)]

@@ -2,8 +2,7 @@ ghost use Rattle.std.specs.Prelude.{◌<◌, ◌≤◌, ◌^◌, IfOk, length};
 ghost use Rattle.channel_core.specs.Stands.{IsNumbered};
 
 use crate::{End, Heard, Incoming, Outgoing, Pull, Put, Tick};
-use agent_message::Item;
-use chan_io::{Bytes, Side};
+use chan_values::{Bytes, Item, Side};
 use std::alloc::Global;
 use std::test::Fail;
 

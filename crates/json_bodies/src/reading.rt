@@ -8,7 +8,7 @@ ghost use Rattle.json_bodies.specs.Reading.{object_of, text_at, truth_at, whole_
 
 use crate::body_fault::BodyFault;
 use crate::member::Member;
-use chan_io::Text;
+use chan_values::Text;
 use serde_json::{Number, Value};
 use std::alloc::Global;
 use uuid::Uuid;

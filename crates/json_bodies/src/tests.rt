@@ -1,5 +1,5 @@
 use crate::{Ack, BodyFault, ChannelClosed, Member, Size};
-use chan_io::Text;
+use chan_values::Text;
 use std::alloc::Global;
 use std::test::Fail;
 

@@ -9,7 +9,7 @@ ghost use Rattle.uuid.specs.Text.{hyphenated_text, lower, parsed};
 ghost use Rattle.json_bodies.specs.Member.{name_of};
 
 use crate::member::Member;
-use chan_io::NoMemory;
+use chan_values::NoMemory;
 use serde_json::{Map, Value};
 use std::alloc::Global;
 use uuid::Uuid;

@@ -1,6 +1,6 @@
 //! The words behind the program's name.
 
-use chan_io::{NoMemory, Text, Word};
+use chan_values::{NoMemory, Text, Word};
 use std::alloc::Global;
 use std::rt::{Env, Files};
 use std::{env, fs};

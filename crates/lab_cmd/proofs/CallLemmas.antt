@@ -2,8 +2,8 @@
 use Rattle.std.proofs.Common.{◌≡◌, ◌≢◌, ℕ, Result, IfOk}
 use Rattle.std.proofs.lemmas.List.Elements.{All-nil}
 use Rattle.std.proofs.lemmas.Result.{IfOk-weaker}
-use Rattle.chan_io.specs.declared.failed.NoMemory.{NoMemory}
-use Rattle.chan_io.specs.declared.side.Side.{Side}
+use Rattle.chan_values.specs.declared.no_memory.NoMemory.{NoMemory}
+use Rattle.chan_values.specs.declared.side.Side.{Side}
 use Rattle.channel_core.specs.declared.call.EndAnswer.TheVariants as EndAnswer
 use Rattle.channel_core.specs.declared.call.EndCall.TheVariants as EndCall
 use Rattle.channel_core.specs.declared.hearing.Heard.{Heard}

@@ -1,9 +1,9 @@
 -- The two ends after a step.
 use Rattle.std.proofs.Common.{◌≡◌, ℕ, List, [], ◌∷◌, ◌++◌, sym, ap, subst, ◌∙◌}
 use Rattle.std.specs.List.{cons_option}
-use Rattle.chan_io.specs.declared.side.Side.{Side}
-use Rattle.chan_io.specs.declared.side.Side.TheVariants.{Plugin, Agent}
-use Rattle.chan_io.specs.Sides.{other}
+use Rattle.chan_values.specs.declared.side.Side.{Side}
+use Rattle.chan_values.specs.declared.side.Side.TheVariants.{Plugin, Agent}
+use Rattle.chan_values.specs.Sides.{other}
 use Rattle.channel_core.specs.Exchange.{opening}
 use Rattle.channel_core.specs.World.{Event, history_of}
 use Rattle.channel_core.proofs.WorldLemmas.{IsRight}

@@ -1,8 +1,8 @@
 -- The steps of a settle, turn after turn.
 use Rattle.std.proofs.Common.{◌≡◌, ℕ, zero, suc, Bool, true, false, cond, Option, List, [], ◌∷◌, ◌++◌, refl, sym, ap, subst, ◌∙◌, append_assoc, append-nil}
 use Rattle.std.proofs.lemmas.List.Elements.{filter_map-append}
-use Rattle.chan_io.specs.declared.side.Side.{Side}
-use Rattle.chan_io.specs.Sides.{other}
+use Rattle.chan_values.specs.declared.side.Side.{Side}
+use Rattle.chan_values.specs.Sides.{other}
 use Rattle.chan_io.specs.Sinks.{Output, WritesPart}
 use Rattle.channel_core.specs.declared.call.EndCall.TheVariants as EndCall
 use Rattle.channel_core.specs.History.{emissions}

@@ -4,8 +4,8 @@ use Rattle.std.specs.List.{fold}
 use Rattle.std.proofs.lemmas.List.Elements.{filter_map-append}
 use Rattle.std.proofs.lemmas.Grind.{flat_map-append}
 use Rattle.std.proofs.lemmas.List.Sums.{fold-append}
-use Rattle.chan_io.specs.declared.side.Side.TheVariants.{Plugin, Agent}
-use Rattle.chan_io.specs.Sides.{other}
+use Rattle.chan_values.specs.declared.side.Side.TheVariants.{Plugin, Agent}
+use Rattle.chan_values.specs.Sides.{other}
 use Rattle.channel_core.specs.declared.call.EndCall.{EndCall}
 use Rattle.channel_core.specs.declared.hearing.Incoming.TheVariants as Incoming
 use Rattle.channel_core.specs.declared.pulling.Outgoing.{Outgoing}

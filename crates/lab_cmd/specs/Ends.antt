@@ -2,9 +2,9 @@
 use Rattle.std.specs.Prelude.{◌≡◌, ℕ, Option, Some, None, List, [], ◌∷◌, ◌++◌, map}
 use Rattle.std.specs.List.{All, cons_option}
 use Rattle.agent_message.specs.Layout.{IsMessage}
-use Rattle.chan_io.specs.declared.side.Side.{Side}
-use Rattle.chan_io.specs.declared.side.Side.TheVariants.{Plugin, Agent}
-use Rattle.chan_io.specs.Sides.{other}
+use Rattle.chan_values.specs.declared.side.Side.{Side}
+use Rattle.chan_values.specs.declared.side.Side.TheVariants.{Plugin, Agent}
+use Rattle.chan_values.specs.Sides.{other}
 use Rattle.channel_core.specs.declared.call.EndAnswer.{EndAnswer}
 use Rattle.channel_core.specs.declared.call.EndCall.{EndCall}
 use Rattle.channel_core.specs.declared.pulling.Outgoing.{Outgoing}

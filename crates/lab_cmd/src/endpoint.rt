@@ -1,7 +1,7 @@
 //! One end of the lab.
 
 ghost use Rattle.std.specs.Prelude.{◌≡◌, ◌≤◌, ◌++◌, ◌∷◌, [], ℕ, List, IfOk, OnOk, Some};
-ghost use Rattle.chan_io.specs.Sides.{other};
+ghost use Rattle.chan_values.specs.Sides.{other};
 ghost use Rattle.channel_core.specs.declared.hearing.Incoming.TheVariants as Incoming;
 ghost use Rattle.channel_core.specs.Exchange.{opening};
 ghost use Rattle.channel_core.specs.World.{Event, IsLegalWorld, history_of};
@@ -10,7 +10,7 @@ ghost use Rattle.lab_cmd.specs.Ends.{IsEndpoint, Makes, encodings_in, side_of};
 
 use crate::hearing::{hear, hurt};
 use crate::verbs::{close, connect, disconnect, hear_message, pull, put, tick};
-use chan_io::{Bytes, NoMemory, Side, Text};
+use chan_values::{Bytes, NoMemory, Side, Text};
 use channel_core::{End, Incoming};
 use lab_script::{Command, Outcome};
 use std::alloc::Global;

@@ -2,7 +2,7 @@
 
 ghost use Rattle.std.specs.Prelude.{◌≡◌, ℕ, ◌+◌, ◌<◌, ◌≤◌, List, IfOk, MatchOption, All, length, map};
 ghost use Rattle.std.specs.Option.{option_copied};
-ghost use Rattle.chan_io.specs.Sides.{other};
+ghost use Rattle.chan_values.specs.Sides.{other};
 ghost use Rattle.channel_core.specs.declared.call.EndCall.TheVariants as EndCall;
 ghost use Rattle.channel_core.specs.declared.pulling.Outgoing.{Outgoing};
 ghost use Rattle.channel_core.specs.Exchange.{incoming_of};
@@ -12,7 +12,7 @@ ghost use Rattle.lab_cmd.specs.Run.{damaged, emission_at, outcome_of_hurt};
 
 use crate::outcome::outcome_of_refusal;
 use crate::verbs::hear_message;
-use chan_io::{Bytes, NoMemory, Side};
+use chan_values::{Bytes, NoMemory, Side};
 use channel_core::End;
 use channel_core::wire::incoming;
 use lab_script::{Outcome, Which};

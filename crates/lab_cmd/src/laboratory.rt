@@ -15,7 +15,8 @@ use crate::script::{ScriptFault, read_script};
 use crate::status::Status;
 use crate::stop::Stop;
 use crate::words::read_words;
-use chan_io::{Sink, Source, Word};
+use chan_io::{Sink, Source};
+use chan_values::Word;
 use std::alloc::Global;
 
 /// Reads a script from the source, runs it on a plugin's end and an agent's end, and writes the

@@ -5,7 +5,7 @@ ghost use Rattle.channel_core.specs.declared.hearing.Incoming.{Incoming};
 ghost use Rattle.channel_core.specs.declared.hearing.Heard.TheVariants as Heard;
 ghost use Rattle.lab_cmd.specs.Run.{is_emission, outcome_of_heard, outcome_of_refusal};
 
-use chan_io::NoMemory;
+use chan_values::NoMemory;
 use channel_core::Heard;
 use channel_core::wire::InRefusal;
 use lab_script::Outcome;

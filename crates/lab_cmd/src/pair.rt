@@ -15,7 +15,8 @@ use crate::endpoint::Endpoint;
 use crate::outcome::is_emission;
 use crate::printer::Printer;
 use crate::stop::Stop;
-use chan_io::{NoMemory, Side, Sink};
+use chan_io::Sink;
+use chan_values::{NoMemory, Side};
 use lab_script::{Command, Outcome};
 use std::alloc::Global;
 

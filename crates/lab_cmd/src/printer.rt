@@ -7,7 +7,8 @@ ghost use Rattle.lab_script.specs.Report.{report_line};
 ghost use Rattle.lab_cmd.specs.Printing.{IsPrinted};
 
 use crate::stop::Stop;
-use chan_io::{Side, Sink};
+use chan_io::Sink;
+use chan_values::Side;
 use lab_script::{Outcome, Verb, push_line};
 use std::alloc::Global;
 

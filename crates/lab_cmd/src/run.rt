@@ -14,7 +14,8 @@ use crate::pair::Pair;
 use crate::printer::Printer;
 use crate::settling::settle;
 use crate::stop::Stop;
-use chan_io::{Side, Sink};
+use chan_io::Sink;
+use chan_values::Side;
 use lab_script::Command;
 use std::alloc::Global;
 

@@ -4,7 +4,7 @@ ghost use Rattle.std.specs.Prelude.{◌≡◌, ℕ, IfOk, Err};
 ghost use Rattle.lab_script.specs.Lines.{lines_of};
 ghost use Rattle.lab_cmd.specs.Script.{IsFirstBad, IsScript};
 
-use chan_io::NoMemory;
+use chan_values::NoMemory;
 use lab_script::{Command, Lines, parse};
 use std::alloc::{AllocFailed, Global};
 

@@ -14,7 +14,8 @@ ghost use Rattle.lab_cmd.specs.Run.{called, events_of, is_emission, pass_steps, 
 use crate::pair::Pair;
 use crate::printer::Printer;
 use crate::stop::Stop;
-use chan_io::{Side, Sink};
+use chan_io::Sink;
+use chan_values::Side;
 use lab_script::{Command, Which};
 use std::alloc::Global;
 

@@ -1,6 +1,7 @@
 //! Why a run stopped before its end.
 
-use chan_io::{Failed, NoMemory};
+use chan_io::Failed;
+use chan_values::NoMemory;
 
 /// Why a run stopped before its end.
 #[derive(Clone, Copy, Debug, PartialEq, Eq)]

@@ -1,5 +1,6 @@
 use crate::{Status, lab};
-use chan_io::{FaultySink, FaultySource, Word};
+use chan_io::{FaultySink, FaultySource};
+use chan_values::Word;
 use std::alloc::Global;
 use std::test::Fail;
 

@@ -1,15 +1,14 @@
 //! What each verb of a script does at one end.
 
 ghost use Rattle.std.specs.Prelude.{◌≡◌, ◌≤◌, ℕ, IfOk, length};
-ghost use Rattle.chan_io.specs.declared.side.Side.{Side};
+ghost use Rattle.chan_values.specs.declared.side.Side.{Side};
 ghost use Rattle.channel_core.specs.declared.call.EndCall.TheVariants as EndCall;
 ghost use Rattle.channel_core.specs.Stands.{IsNumbered};
 ghost use Rattle.lab_cmd.specs.Ends.{IsCalled};
 ghost use Rattle.lab_cmd.specs.Run.{id_of};
 
 use crate::outcome::outcome_of_heard;
-use agent_message::Item;
-use chan_io::{Bytes, NoMemory, Side};
+use chan_values::{Bytes, Item, NoMemory, Side};
 use channel_core::wire::outgoing;
 use channel_core::{End, Incoming, Pull, Put, Tick};
 use lab_script::Outcome;

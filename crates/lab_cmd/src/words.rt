@@ -3,7 +3,7 @@
 ghost use Rattle.std.specs.Prelude.{◌≡◌, ◌≢◌, ℕ, IfOk, IfErr, IfSome, IfNone, decimal};
 ghost use Rattle.lab_cmd.specs.Words.{IsWindow, IsWords, IsWordsFault};
 
-use chan_io::Word;
+use chan_values::Word;
 use lab_script::read_number;
 
 /// The window of both ends where no word says another.

@@ -4,7 +4,7 @@ use Rattle.std.specs.Prelude.{OnErr}
 use Rattle.std.specs.List.{join_with_byte}
 use Rattle.std.proofs.lemmas.List.{append-nil, append_assoc, length-append, take_at, take-take}
 use Rattle.std.proofs.lemmas.List.Concat.{flat_map-append}
-use Rattle.chan_io.specs.declared.side.Side.{Side}
+use Rattle.chan_values.specs.declared.side.Side.{Side}
 use Rattle.lab_script.specs.declared.outcome.Outcome.{Outcome}
 use Rattle.lab_script.specs.declared.verb.Verb.{Verb}
 use Rattle.lab_script.specs.Verb.{verb_text}

@@ -5,7 +5,7 @@ use Rattle.lab_script.specs.declared.command.Command.{Command}
 use Rattle.lab_script.specs.declared.command.Command.TheVariants as commands
 use Rattle.lab_script.specs.declared.verb.Verb.{Verb}
 use Rattle.lab_script.specs.declared.verb.Verb.TheVariants as verbs
-use Rattle.agent_message.specs.declared.message.TheConstants.{MAX_PAYLOAD}
+use Rattle.chan_values.specs.Limits.{max_payload}
 use Rattle.lab_script.specs.Verb.{verb_text}
 use Rattle.lab_script.specs.Words.{side_text, hex_text, which_text, IsWhich}
 
@@ -49,7 +49,7 @@ spelling command = join_with_byte 32 (verb_text (verb_of command) ∷ operands_o
 
 -- bytes, and no more of them than a message carries
 abbrev pub IsPayload : List ℕ → Type 0
-IsPayload bytes = All (λ b. b < 256) bytes × (length bytes ≤ MAX_PAYLOAD)
+IsPayload bytes = All (λ b. b < 256) bytes × (length bytes ≤ max_payload)
 
 -- the numbers and the payload of a command are in range
 abbrev pub IsCommand : Command → Type 0

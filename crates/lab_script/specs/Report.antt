@@ -1,8 +1,8 @@
 -- The lines of a report.
 use Rattle.std.specs.Prelude.{ℕ, List, [], ◌∷◌, ◌++◌, codes, length, map, decimal, Option, Some, None}
 use Rattle.std.specs.List.{join_with_byte}
-use Rattle.agent_message.specs.declared.item.Item.{Item}
-use Rattle.chan_io.specs.declared.side.Side.{Side}
+use Rattle.chan_values.specs.declared.item.Item.{Item}
+use Rattle.chan_values.specs.declared.side.Side.{Side}
 use Rattle.lab_script.specs.declared.outcome.Outcome.{Outcome}
 use Rattle.lab_script.specs.declared.outcome.Outcome.TheVariants.{Seq, Full, Closed, Spent, Emit, Idle, Released, Late, Beyond, Acked, UnknownAck, Paused, Started, Ended, AfterClose, Absent, Refused, Passed, Nothing, Due, GaveUp, Quiet}
 use Rattle.lab_script.specs.declared.verb.Verb.{Verb}

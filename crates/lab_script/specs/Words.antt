@@ -1,8 +1,8 @@
 -- The words of a line behind its verb. A number is std's `decimal`: no sign and no leading zero.
 use Rattle.std.specs.Prelude.{ℕ, ◌<◌, ◌^◌, List, [], ◌∷◌, codes, decimal, ⊤}
 use Rattle.hex.specs.Hex.{encode_lower}
-use Rattle.chan_io.specs.declared.side.Side.{Side}
-use Rattle.chan_io.specs.declared.side.Side.TheVariants.{Plugin, Agent}
+use Rattle.chan_values.specs.declared.side.Side.{Side}
+use Rattle.chan_values.specs.declared.side.Side.TheVariants.{Plugin, Agent}
 use Rattle.lab_script.specs.declared.which.Which.{Which}
 use Rattle.lab_script.specs.declared.which.Which.TheVariants.{Number, Last}
 

@@ -5,8 +5,7 @@ ghost use Rattle.lab_script.specs.Command.{verb_of};
 
 use crate::verb::Verb;
 use crate::which::Which;
-use agent_message::Item;
-use chan_io::Side;
+use chan_values::{Item, Side};
 
 /// What a line of a script asks for.
 #[derive(Debug, Drop)]

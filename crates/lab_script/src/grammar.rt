@@ -13,8 +13,7 @@ use crate::side_letter::read_side;
 use crate::split::split_at_byte;
 use crate::verb::Verb;
 use crate::which::Which;
-use agent_message::Item;
-use chan_io::NoMemory;
+use chan_values::{Item, NoMemory};
 use std::alloc::Global;
 
 /// The command that a line says. `None`: the line is out of the grammar.

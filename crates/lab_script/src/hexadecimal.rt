@@ -8,8 +8,7 @@ ghost use Rattle.lab_script.specs.Appending.{Keeps};
 ghost use Rattle.lab_script.specs.Words.{hex_text};
 ghost use Rattle.lab_script.specs.Command.{IsPayload};
 
-use agent_message::MAX_PAYLOAD;
-use chan_io::{Bytes, NoMemory};
+use chan_values::{Bytes, MAX_PAYLOAD, NoMemory};
 use hex::FromHexError;
 use std::alloc::Global;
 

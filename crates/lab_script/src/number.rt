@@ -2,7 +2,7 @@
 
 ghost use Rattle.std.specs.Prelude.{◌≡◌, ◌≢◌, ◌<◌, ◌^◌, ◌++◌, ℕ, IfSome, IfNone, OnOk, OnErr, decimal};
 
-use chan_io::NoMemory;
+use chan_values::NoMemory;
 use itoa::Buffer;
 
 /// The number below 2^64 that a word spells.

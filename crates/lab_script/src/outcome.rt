@@ -1,7 +1,6 @@
 //! What became of a line of the script.
 
-use agent_message::Items;
-use chan_io::Bytes;
+use chan_values::{Bytes, Items};
 
 /// What became of a line, as its line of the report says.
 #[derive(Debug, Drop)]

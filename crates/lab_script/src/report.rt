@@ -10,8 +10,7 @@ use crate::number::push_number;
 use crate::outcome::Outcome;
 use crate::side_letter::letter_of;
 use crate::verb::Verb;
-use agent_message::Item;
-use chan_io::{NoMemory, Side};
+use chan_values::{Item, NoMemory, Side};
 
 /// Puts a line of the report at the end. On want of memory nothing is put.
 pub fn push_line(

@@ -1,10 +1,10 @@
 //! The letter of an end.
 
 ghost use Rattle.std.specs.Prelude.{◌≡◌, ◌≢◌, IfSome, IfNone};
-ghost use Rattle.chan_io.specs.declared.side.Side.{Side};
+ghost use Rattle.chan_values.specs.declared.side.Side.{Side};
 ghost use Rattle.lab_script.specs.Words.{side_text};
 
-use chan_io::Side;
+use chan_values::Side;
 
 /// The end that a word names.
 pub fn read_side(word: &[u8]) -> Option<Side>

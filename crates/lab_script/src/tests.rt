@@ -1,6 +1,5 @@
 use crate::{Command, Lines, Outcome, Verb, Which, parse, push_line};
-use agent_message::{Item, Items, MAX_PAYLOAD};
-use chan_io::{Bytes, Side};
+use chan_values::{Bytes, Item, Items, MAX_PAYLOAD, Side};
 use std::alloc::Global;
 use std::test::Fail;
 

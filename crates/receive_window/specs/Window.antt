@@ -2,7 +2,7 @@
 use Rattle.std.specs.Prelude.{◌≡◌, ℕ, ◌-◌, ◌<◌, ◌≤◌, Bool, ◌||◌, Option, None, List, [], is_some, IsSome, nat_eq, nat_lt, if◌then◌else◌}
 use Rattle.std.specs.List.{filter_map, range_with_len}
 use Rattle.std.specs.Map.{lookup}
-use Rattle.agent_message.specs.declared.item.Item.{Item}
+use Rattle.chan_values.specs.declared.item.Item.{Item}
 use Rattle.receive_window.specs.declared.take.Take.{Take}
 use Rattle.receive_window.specs.declared.take.Take.TheVariants as takes
 

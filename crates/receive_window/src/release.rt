@@ -6,7 +6,7 @@ ghost use Rattle.std.specs.Ordering.{nat_cmp};
 ghost use Rattle.std.specs.BTreeMap.{IsOrdered, btree_map_len};
 ghost use Rattle.receive_window.specs.Window.{item_with, items_in_order};
 
-use agent_message::Item;
+use chan_values::Item;
 use std::collections::BTreeMap;
 
 /// Takes out the items from a number on, as far as they follow one another, and tells the number

@@ -1,6 +1,6 @@
 //! The answer of `Window::take`.
 
-use agent_message::{Item, Items};
+use chan_values::{Item, Items};
 
 /// What became of a stream message that was heard.
 #[derive(Debug, Drop)]

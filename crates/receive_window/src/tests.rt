@@ -1,6 +1,5 @@
 use crate::{Take, Window};
-use agent_message::Item;
-use chan_io::Bytes;
+use chan_values::{Bytes, Item};
 use std::alloc::Global;
 use std::test::Fail;
 

@@ -1,12 +1,12 @@
 //! The receive window: stream messages come in any order and leave by number, each once.
 
 ghost use Rattle.std.specs.Prelude.{◌≡◌, ◌≢◌, ◌↔◌, ◌+◌, ◌-◌, ◌^◌, ◌<◌, ◌≤◌, ◌∷◌, AllPairs, IfOk, IsTrue, length};
+ghost use Rattle.chan_values.specs.Limits.{max_window};
 ghost use Rattle.receive_window.specs.Window.{empty_window, is_taken, Releases, IfReleased, IfRefused};
 
 use crate::release::release;
 use crate::take::Take;
-use agent_message::{Item, Items};
-use chan_io::NoMemory;
+use chan_values::{Item, Items, NoMemory};
 use std::alloc::Global;
 use std::collections::BTreeMap;
 use std::marker::Model;
@@ -39,7 +39,7 @@ impl Window {
     /// A window of 1 to 10,000 messages.
     pub fn new(alloc: Global, window: u64) -> Result<Window, NoMemory>
         requires low { 1 ≤ window }
-        requires high { window ≤ 10000 }
+        requires high { window ≤ max_window }
         ensures { IfOk result (λ taken. taken ≡ empty_window window) }
     {
         Ok(Window {

@@ -2,6 +2,7 @@
 use Rattle.std.specs.Prelude.{ℕ, ◌^◌, ◌<◌, ◌≤◌, length, All}
 use Rattle.std.specs.Ordering.{nat_cmp}
 use Rattle.std.specs.BTreeMap.{BTreeMap, IsOrdered}
+use Rattle.chan_values.specs.Limits.{max_payload}
 use Rattle.resend_queue.specs.declared.slot.Slot.{Slot}
 use Rattle.resend_queue.specs.Queue.{Pending}
 use Rattle.resend_queue.specs.Slot.{messages}
@@ -10,7 +11,7 @@ use Rattle.resend_queue.specs.Slot.{messages}
 pub record IsKept (next : ℕ) (p : Pending) : Type 0 where
   pub below : p.seq < next
   pub dated : 0 < p.date
-  pub short : length p.item.payload ≤ 65536
+  pub short : length p.item.payload ≤ max_payload
 
 -- the numbers ascend below the next one, and each message can be encoded
 pub record IsSound (next : ℕ) (slots : BTreeMap ℕ Slot) (dues : ℕ) : Type 0 where

@@ -1,7 +1,7 @@
 -- The send queue of one end: what was put in and isn't acknowledged (SND.UNA and SND.NXT of RFC 9293,
 -- 3.3.1, in messages).
 use Rattle.std.specs.Prelude.{ℕ, ◌<◌, ◌≤◌, ◌^◌, length, ◌+◌, ◌-◌, ◌==◌, ◌&&◌, ◌||◌, Bool, true, false, not, Option, Some, None, List, [], ◌∷◌, ◌++◌, map, filter, find, nat_lt, nat_le, option_and_then, if◌then◌else◌}
-use Rattle.agent_message.specs.declared.item.Item.{Item}
+use Rattle.chan_values.specs.declared.item.Item.{Item}
 use Rattle.resend_queue.specs.declared.kept.Kept.{Kept}
 use Rattle.resend_queue.specs.declared.kept.Kept.TheVariants as kepts
 use Rattle.resend_queue.specs.declared.mark.Mark.{Mark}

@@ -1,6 +1,6 @@
 //! The answer of `Queue::put`.
 
-use agent_message::Item;
+use chan_values::Item;
 
 /// What became of an item that was put in.
 #[derive(Debug, Drop)]

@@ -1,6 +1,7 @@
 //! The send queue: messages wait here from their put to their acknowledgement.
 
 ghost use Rattle.std.specs.Prelude.{◌≡◌, ◌⊎◌, ◌<◌, ◌≤◌, IfOk, length};
+ghost use Rattle.chan_values.specs.Limits.{max_payload, max_window};
 ghost use Rattle.resend_queue.specs.Queue.{after_ack, after_mark, after_out, after_put, empty_queue, first_eligible};
 ghost use Rattle.resend_queue.specs.Queue.{IfStream, IsEncodable, lowest, mark_answer, moment_of, out_of, put_answer, reopened};
 
@@ -10,8 +11,7 @@ use crate::out::Out;
 use crate::sent::Sent;
 use crate::slot::Slot;
 use crate::slots::{first_eligible, mark, reopen, transmit};
-use agent_message::{Item, MAX_PAYLOAD};
-use chan_io::NoMemory;
+use chan_values::{Item, NoMemory};
 use std::alloc::Global;
 use std::collections::BTreeMap;
 use std::marker::Model;
@@ -55,7 +55,7 @@ impl Queue {
     /// A queue for a window of 1 to 10,000 messages. It counts as reopened.
     pub fn new(alloc: Global, window: u64) -> Result<Queue, NoMemory>
         requires low { 1 ≤ window }
-        requires high { window ≤ 10000 }
+        requires high { window ≤ max_window }
         ensures { IfOk result (λ queue. queue ≡ empty_queue window) }
     {
         Ok(Queue {
@@ -86,7 +86,7 @@ impl Queue {
 
     /// Puts in an item, under the next number.
     pub fn put(&mut self, item: Item, id: [u8; 16], date: u64) -> Kept
-        requires short { length item.payload ≤ MAX_PAYLOAD }
+        requires short { length item.payload ≤ max_payload }
         requires dated { 0 < date }
         ensures answer { (result ≡ put_answer self.old item) ⊎ (result ≡ Kept.NoMemory item) }
         ensures state { self.new ≡ after_put self.old item id date result }

@@ -1,6 +1,6 @@
 //! A stream message as it goes out.
 
-use agent_message::Item;
+use chan_values::Item;
 
 /// A stream message with its sequence number.
 #[derive(Debug, Drop)]

@@ -4,7 +4,7 @@ ghost use Rattle.std.specs.Prelude.{◌≡◌, ℕ};
 ghost use Rattle.resend_queue.specs.Queue.{is_eligible, is_overdue, new_message};
 ghost use Rattle.resend_queue.specs.Slot.{pending_of};
 
-use agent_message::Item;
+use chan_values::Item;
 
 /// A message that is not acknowledged.
 #[derive(Debug, Drop)]

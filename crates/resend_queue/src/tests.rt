@@ -1,8 +1,7 @@
 ghost use Rattle.std.specs.Prelude.{◌≡◌, IfOk, length};
 
 use crate::{Kept, Mark, Out, Queue};
-use agent_message::Item;
-use chan_io::Bytes;
+use chan_values::{Bytes, Item};
 use std::alloc::Global;
 use std::test::Fail;
 

@@ -12,7 +12,7 @@ use crate::ticket::Inner;
 use crate::value::Turn;
 use crate::view::{LastCall, Locked};
 use atomic_table::Table;
-use chan_io::NoMemory;
+use chan_values::NoMemory;
 use std::alloc::Global;
 use std::snapshot::Snapshot;
 use std::sync::Wait;

@@ -1,7 +1,7 @@
 //! What comes in, from bytes.
 
 ghost use Rattle.std.specs.Prelude.{◌≡◌, ◌⊎◌, ◌<◌, ◌^◌, ℕ, List, Ok, IfOk, All, length};
-ghost use Rattle.chan_io.specs.Sides.{other};
+ghost use Rattle.chan_values.specs.Sides.{other};
 ghost use Rattle.agent_message.specs.Layout.{IsMessage};
 ghost use Rattle.channel_core.specs.Arrival.{Arrives, Hears, HearsAck, HearsClosing, HearsStream, IsAnswer, UnlessNoMemory};
 ghost use Rattle.channel_core.specs.Exchange.{incoming_of};
@@ -13,8 +13,8 @@ ghost use Rattle.json_bodies.specs.Ack.{ack_text};
 use crate::hearing::Incoming;
 use crate::wire::encoding::data_name;
 use crate::wire::refusal::InRefusal;
-use agent_message::{Item, Message, Name, decode};
-use chan_io::Side;
+use agent_message::{Message, Name, decode};
+use chan_values::{Item, Side};
 use json_bodies::{Ack, ChannelClosed};
 use std::alloc::Global;
 

@@ -6,8 +6,8 @@ ghost use Rattle.json_bodies.specs.Ack.{ack_text};
 ghost use Rattle.channel_core.specs.Wire.{IsEncodable, ack_body, ack_message, data_name, encoding, message_of, stream_flags, stream_message};
 
 use crate::pulling::Outgoing;
-use agent_message::{Item, Message, Name, encode};
-use chan_io::{Bytes, NoMemory, Side, Text};
+use agent_message::{Message, Name, encode};
+use chan_values::{Bytes, Item, NoMemory, Side, Text};
 use json_bodies::Ack;
 use resend_queue::Sent;
 use std::alloc::Global;

@@ -2,8 +2,8 @@ ghost use Rattle.std.specs.Prelude.{◌≤◌, length};
 
 use crate::wire::{InRefusal, incoming, outgoing};
 use crate::{Incoming, Outgoing};
-use agent_message::{Item, Message, Name, encode};
-use chan_io::{Bytes, NoMemory, Side};
+use agent_message::{Message, Name, encode};
+use chan_values::{Bytes, Item, NoMemory, Side};
 use resend_queue::Sent;
 use std::alloc::Global;
 use std::test::Fail;

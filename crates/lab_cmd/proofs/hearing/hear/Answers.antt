@@ -1,5 +1,5 @@
 use Rattle.std.proofs.Common.{◌≡◌, ⊎_elim, ◌∙◌}
-use Rattle.chan_io.specs.Sides.{other}
+use Rattle.chan_values.specs.Sides.{other}
 use Rattle.channel_core.specs.Exchange.{incoming_of}
 use Rattle.channel_core.specs.declared.wire.refusal.InRefusal.TheVariants as InRefusal
 use Rattle.std.proofs.lemmas.Result.{IfOk-weaker}

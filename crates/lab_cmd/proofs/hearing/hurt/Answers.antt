@@ -1,6 +1,6 @@
 use Rattle.std.proofs.Common.{Ok, Err, ◌∙◌}
 use Rattle.std.proofs.lemmas.Result.{IfOk-weaker}
-use Rattle.chan_io.specs.Sides.{other}
+use Rattle.chan_values.specs.Sides.{other}
 use Rattle.channel_core.specs.Arrival.{Arrives, IsAnswer}
 use Rattle.channel_core.specs.Wire.{message_of}
 use Rattle.lab_cmd.proofs.DamageLemmas.{IsDamaged, IsDamaged-copy, outcome_of_hurt-heard, outcome_of_hurt-past, outcome_of_hurt-refused}

@@ -1,6 +1,6 @@
 use Rattle.std.proofs.Common.{ℕ, ◌+◌, ◌*◌, List, ◌++◌, OnOk, OnErr, refl, subst}
 use Rattle.std.proofs.lemmas.Result.{err_from_is_err_and}
-use Rattle.chan_io.specs.declared.side.Side.TheVariants.{Plugin, Agent}
+use Rattle.chan_values.specs.declared.side.Side.TheVariants.{Plugin, Agent}
 use Rattle.chan_io.specs.Sinks.{WritesPart}
 use Rattle.channel_core.specs.World.{Event}
 use Rattle.lab_script.specs.declared.command.Command.TheVariants as Command

@@ -1,6 +1,6 @@
 use Rattle.std.proofs.Common.{List, ℕ, Option, Some, None, Result, Ok, Err, subst}
 use Rattle.std.specs.Prelude.{IfOk, IfSome, IfNone, MatchOption}
-use Rattle.chan_io.specs.declared.failed.NoMemory.{NoMemory}
+use Rattle.chan_values.specs.declared.no_memory.NoMemory.{NoMemory}
 use Rattle.lab_script.specs.declared.command.Command.{Command}
 use Rattle.lab_script.specs.Command.{Says, IsScriptLine}
 use Rattle.lab_script.proofs.Spelling.{line_from_words}

@@ -1,7 +1,7 @@
 use Rattle.std.proofs.Common.{◌≡◌, ◌≢◌, ℕ, ◌<◌, ◌≤◌, ◌++◌, List, [], ◌∷◌, Some, None, is_some, cond, eqb, sym, ap, ◌∙◌, arith, refl, append_assoc, ⊎_elim, subst}
 use Rattle.std.proofs.lemmas.Bool.{cases_lt, cases_eq, eq-eqb, ne_eqb, both_ways}
 use Rattle.std.specs.Option.{IsSome}
-use Rattle.agent_message.specs.declared.item.Item.{Item}
+use Rattle.chan_values.specs.declared.item.Item.{Item}
 use Rattle.receive_window.specs.Window.{item_with, items_in_order}
 use Rattle.receive_window.proofs.ItemLemmas.{is_at-same, lookup-item_with, items_in_order-more, present}
 use Rattle.receive_window.proofs.release.release.Goals as goal

@@ -1,7 +1,7 @@
 use Rattle.std.proofs.Common.{◌≡◌, refl, ◌∙◌, inl, inr, ap, Err, ◌<◌, All, arith}
 use Rattle.std.proofs.lemmas.Result.{err_from_is_err_and}
 use Rattle.std.proofs.lemmas.List.Elements.{All-from_get_or}
-use Rattle.chan_io.specs.Sides.{other}
+use Rattle.chan_values.specs.Sides.{other}
 use Rattle.agent_message.specs.declared.refusal.Refusal.TheVariants as Refusal
 use Rattle.channel_core.specs.Arrival.{refusal_of}
 use Rattle.channel_core.specs.Wire.{message_of}

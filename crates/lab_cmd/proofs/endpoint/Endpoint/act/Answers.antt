@@ -1,6 +1,6 @@
 use Rattle.std.proofs.Common.{◌≡◌, ◌∷◌, ◌∙◌, [], length, refl, ap}
 use Rattle.std.proofs.lemmas.List.{length-map}
-use Rattle.chan_io.specs.Sides.{other}
+use Rattle.chan_values.specs.Sides.{other}
 use Rattle.channel_core.specs.declared.call.EndCall.{EndCall}
 use Rattle.channel_core.specs.declared.hearing.Incoming.TheVariants as Incoming
 use Rattle.channel_core.specs.History.{emissions}

@@ -1,6 +1,6 @@
 use Rattle.std.proofs.Common.{refl}
 use Rattle.std.proofs.lemmas.Result.{on_ok_weaker}
-use Rattle.chan_io.specs.declared.side.Side.TheVariants.{Plugin, Agent}
+use Rattle.chan_values.specs.declared.side.Side.TheVariants.{Plugin, Agent}
 use Rattle.lab_cmd.proofs.PairLemmas.{IsPair-kept}
 use Rattle.lab_cmd.proofs.pair.Pair.keep.Goals as goal
 

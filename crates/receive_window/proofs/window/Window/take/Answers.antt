@@ -1,7 +1,7 @@
 use Rattle.std.proofs.Common.{◌≡◌, ◌≢◌, ℕ, ◌+◌, ◌^◌, ◌<◌, List, [], ◌∷◌, ◌++◌, Some, cond, eqb, is_some, sym, ap, ◌∙◌, arith, refl, ⊎_elim, subst}
 use Rattle.std.proofs.lemmas.Bool.{cases_eq, ne_eqb}
 use Rattle.std.specs.Option.{IsSome}
-use Rattle.agent_message.specs.declared.item.Item.{Item}
+use Rattle.chan_values.specs.declared.item.Item.{Item}
 use Rattle.receive_window.specs.declared.take.Take.TheVariants as takes
 use Rattle.receive_window.specs.Window.{WindowState, item_with, items_in_order}
 use Rattle.receive_window.proofs.ItemLemmas.{is_at-same, lookup-item_with, Releases-early, Releases-next_at, fresh, not_late, released-not_late, no_memory-not_late, late-not_beyond}

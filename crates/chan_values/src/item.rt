@@ -2,7 +2,8 @@
 
 ghost use Rattle.std.specs.Prelude.{◌≡◌, IfOk, []};
 
-use chan_io::{Bytes, NoMemory};
+use crate::bytes::Bytes;
+use crate::no_memory::NoMemory;
 use std::alloc::Global;
 use std::marker::Model;
 
@@ -35,7 +36,7 @@ pub struct Items {
 
 impl Model for Items {
     ghost use Rattle.std.specs.Prelude.{List};
-    ghost use Rattle.agent_message.specs.declared.item.Item.{Item};
+    ghost use Rattle.chan_values.specs.declared.item.Item.{Item};
 
     ghost Value = { List Item };
 
