@@ -13,7 +13,7 @@ use Rattle.channel_core.specs.declared.call.EndCall.{EndCall}
 use Rattle.channel_core.specs.declared.hearing.Heard.{Heard}
 use Rattle.channel_core.specs.declared.hearing.Incoming.{Incoming}
 use Rattle.channel_core.specs.Call.{Entry}
-use Rattle.channel_core.specs.History.{Message, acked_numbers, emitted_numbers, is_closed, lowest_unacked, put_messages, taken_items}
+use Rattle.channel_core.specs.History.{PutMessage, acked_numbers, emitted_numbers, is_closed, lowest_unacked, put_messages, taken_items}
 use Rattle.channel_core.specs.Legal.{IsAnswered, IsLegal, answer_to_ack, answer_to_heard}
 use Rattle.channel_core.specs.Numbers.{has_number, least_absent, numbers_of}
 use Rattle.channel_core.specs.Resending.{due_count, last_moment, round_trip, round_trip_samples, transmissions}
@@ -50,7 +50,7 @@ moment_at h n order = at (has_number (acked_numbers h) n) (slice_get (put_messag
     sent true = refl
     sent false = refl
 
-    at : (b : Bool) (o : Option Message) → slice_get (put_messages h) n ≡ o
+    at : (b : Bool) (o : Option PutMessage) → slice_get (put_messages h) n ≡ o
         → option_and_then (λ p. p.emitted) (cond b None (option_map (message_of (sending h) n) o))
         ≡ cond (has_number (emitted_numbers h) n && not b)
         (Some (last_moment (transmissions h) n)) None

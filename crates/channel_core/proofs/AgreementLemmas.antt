@@ -13,7 +13,7 @@ use Rattle.channel_core.specs.declared.call.EndAnswer.{EndAnswer}
 use Rattle.channel_core.specs.declared.call.EndCall.{EndCall}
 use Rattle.channel_core.specs.declared.pulling.Outgoing.{Outgoing}
 use Rattle.channel_core.specs.Call.{Entry}
-use Rattle.channel_core.specs.History.{Message, acked_numbers, emissions, item_taken, lowest_unacked, message_emitted, message_put, number_acked, owed_acks, owed_after, owed_with, put_items, put_messages, taken_items}
+use Rattle.channel_core.specs.History.{PutMessage, acked_numbers, emissions, item_taken, lowest_unacked, message_emitted, message_put, number_acked, owed_acks, owed_after, owed_with, put_items, put_messages, taken_items}
 use Rattle.channel_core.specs.Legal.{IsAnswered}
 use Rattle.channel_core.specs.Numbers.{has_number, numbers_of}
 use Rattle.channel_core.specs.World.{Event, IsHonest, IsLegalWorld, WasEmitted, history_of}
@@ -21,7 +21,7 @@ use Rattle.channel_core.proofs.HistoryLemmas.{acked_numbers-push, by_pushes, emi
 use Rattle.channel_core.proofs.ItemLemmas.{numbers_of-append}
 use Rattle.channel_core.proofs.LegalLemmas.{by_cases}
 use Rattle.channel_core.proofs.NumberLemmas.{has_number-last, has_number-more, has_number-pushed, least_absent-grows}
-use Rattle.channel_core.proofs.SoundLemmas.{IsSound, sound}
+use Rattle.channel_core.proofs.SoundLemmas.{IsConsistent, sound}
 use Rattle.channel_core.proofs.WorldLemmas.{IsHonest-pushed, IsLegalWorld-pushed, cases_side, history_of-away, history_of-here, history_of-there, other-other}
 
 -- a stream message has the item that was put in with its number, which is below this bound
@@ -82,7 +82,7 @@ emission_sent w s call answer room answered =
       acked = λ now n out before. tt;
       emit_ack = λ now p owed is. tt;
       emit_stream = λ now n m below eligible is.
-          (slice_get-map (λ (x : Message). x.item) (put_messages s) n ∙ rw is refl, omega arith);
+          (slice_get-map (λ (x : PutMessage). x.item) (put_messages s) n ∙ rw is refl, omega arith);
     }) call answer answered
 
 -- a number that is acknowledged was taken at the other end
@@ -118,7 +118,7 @@ sent_more items more bound higher (Outgoing.Ack n id date) grows is = tt
 -- one entry more of the sender
 sender_after : (w : ℕ) (s r : List Entry) (e : Entry)
     → Agree w s r
-    → IsSound w s
+    → IsConsistent w s
     → IsAnswered w s e.call e.answer
     → WasEmitted (emissions r) e.call
     → Agree w (s ++ e ∷ []) r

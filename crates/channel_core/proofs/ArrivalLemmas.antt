@@ -15,10 +15,10 @@ use Rattle.chan_values.specs.declared.side.Side.TheVariants.{Plugin, Agent}
 use Rattle.chan_values.specs.Sides.{other}
 use Rattle.agent_message.specs.Sha256.{sha256}
 use Rattle.agent_message.specs.Decoding.{Decodes}
-use Rattle.agent_message.specs.Layout.{canonical, IsMessage, IsEncodable as IsEncodableMessage}
+use Rattle.agent_message.specs.Layout.{canonical, IsMessage, IsEncodable}
 use Rattle.agent_message.specs.Names.{padded}
 use Rattle.agent_message.specs.declared.refusal.Refusal.{Refusal}
-use Rattle.channel_core.specs.Arrival.{Answer, Arrives, Hears, IsAnswer, UnlessNoMemory, item_of, refusal_of}
+use Rattle.channel_core.specs.Arrival.{Answer, Arrives, Hears, IsAnswer, AnswerOrNoMemory, item_of, refusal_of}
 use Rattle.channel_core.specs.Exchange.{incoming_of}
 use Rattle.channel_core.specs.declared.hearing.Incoming.TheVariants as Incoming
 use Rattle.channel_core.specs.declared.pulling.Outgoing.{Outgoing}
@@ -26,7 +26,7 @@ use Rattle.channel_core.proofs.WireLemmas.{fits_signed, length-payload}
 use Rattle.channel_core.specs.declared.wire.refusal.InRefusal.TheVariants as InRefusal
 use Rattle.agent_message.specs.declared.message.Message.{Message}
 use Rattle.json_bodies.specs.Ack.{IsWritableAck}
-use Rattle.channel_core.specs.Wire.{IsEncodable, ack_body, ack_message, data_name, encoding, message_of}
+use Rattle.channel_core.specs.Wire.{CanBeEncoded, ack_body, ack_message, data_name, encoding, message_of}
 
 -- ---- the body of an acknowledgement
 
@@ -121,7 +121,7 @@ module _ (side : Side) (bytes : List ℕ) (decoded : Result Message Refusal) (re
 -- ---- what was encoded is heard as what was emitted
 
 -- the message of what is encodable is so
-pub IsEncodable-message_of : (side : Side) (out : Outgoing) → IsEncodable out → IsMessage (message_of side out) → IsEncodableMessage (message_of side out)
+pub IsEncodable-message_of : (side : Side) (out : Outgoing) → CanBeEncoded out → IsMessage (message_of side out) → IsEncodable (message_of side out)
 IsEncodable-message_of side (Outgoing.Stream sent) can fits =
     record { message = fits; sized = length-payload side (Outgoing.Stream sent) can; dated = inl can.1 }
 IsEncodable-message_of side (Outgoing.Ack seq id date) can fits =
@@ -129,9 +129,9 @@ IsEncodable-message_of side (Outgoing.Ack seq id date) can fits =
 
 pub heard_again : (side : Side) (bytes : List ℕ) (m : Message) (result : Answer) → All (λ byte. byte < 256) bytes
     → IsAnswer (Hears side m) result
-    → ((seq : ℕ) (id : List ℕ) (date : ℕ) → seq < 2 ^ 63 → length id ≡ 16 → All (λ byte. byte < 256) id → m ≡ ack_message (other side) seq id date → UnlessNoMemory result (Ok (Incoming.Ack seq)))
-    → (out : Outgoing) → IsEncodable out → IsMessage (message_of (other side) out) → bytes ≡ encoding (other side) out → m ≡ message_of (other side) out
-    → UnlessNoMemory result (Ok (incoming_of out))
+    → ((seq : ℕ) (id : List ℕ) (date : ℕ) → seq < 2 ^ 63 → length id ≡ 16 → All (λ byte. byte < 256) id → m ≡ ack_message (other side) seq id date → AnswerOrNoMemory result (Ok (Incoming.Ack seq)))
+    → (out : Outgoing) → CanBeEncoded out → IsMessage (message_of (other side) out) → bytes ≡ encoding (other side) out → m ≡ message_of (other side) out
+    → AnswerOrNoMemory result (Ok (incoming_of out))
 heard_again side bytes m result small heard written (Outgoing.Stream sent) can fits spelled is =
     heard.only (Ok (Incoming.Stream sent.seq sent.id sent.item))
     (inl (ap (λ x. x.name) is, (ap (λ x. x.seq) is, ap (λ x. x.id) is, ap item_of is)))

@@ -22,7 +22,7 @@ use Rattle.channel_core.proofs.AgreementLemmas.{Agree, IsPutAs, IsSentFrom, agre
 use Rattle.channel_core.proofs.HistoryLemmas.{by_pushes}
 use Rattle.channel_core.proofs.ItemLemmas.{item_with-contains, item_with-meets, item_with-there, filter_map-reads}
 use Rattle.channel_core.proofs.NumberLemmas.{least_absent-is, least_absent-le}
-use Rattle.channel_core.proofs.SoundLemmas.{IsSound, sound, within_window}
+use Rattle.channel_core.proofs.SoundLemmas.{IsConsistent, sound, within_window}
 use Rattle.channel_core.proofs.WorldLemmas.{IsHonest-pushed, IsLegalWorld-pushed, other-other}
 use Rattle.channel_core.specs.declared.pulling.Outgoing.{Outgoing}
 use Rattle.channel_core.proofs.LegalLemmas.{ack_cases, stream_cases}
@@ -30,7 +30,7 @@ use Rattle.channel_core.proofs.LegalLemmas.{ack_cases, stream_cases}
 -- what the receiver released is the front of what the sender put in
 pub released_items-front : (w : ℕ) (s r : List Entry)
     → Agree w s r
-    → IsSound w r
+    → IsConsistent w r
     → released_items r ≡ take (next_in_order r) (put_items s)
 released_items-front w s r agree sound =
     let next = next_in_order r in
@@ -143,7 +143,7 @@ Contains-filter {X} test (y ∷ xs) (suc k) x within is passes =
 -- a number that was taken has arrived
 pub has_arrived : (w : ℕ) (s r : List Entry) (n : ℕ)
     → Agree w s r
-    → IsSound w r
+    → IsConsistent w r
     → has_number (numbers_of (taken_items r)) n ≡ true
     → HasArrived s r n
 has_arrived w s r n agree sound there =

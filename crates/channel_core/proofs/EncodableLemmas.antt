@@ -13,8 +13,8 @@ use Rattle.channel_core.specs.declared.pulling.Outgoing.{Outgoing}
 use Rattle.channel_core.specs.declared.put.Put.{Put}
 use Rattle.channel_core.specs.Call.{Entry}
 use Rattle.channel_core.specs.Callable.{IsCallable}
-use Rattle.channel_core.specs.Encodable.{IsEncodable}
-use Rattle.channel_core.specs.History.{Message, emissions, is_closed, lowest_unacked, message_emitted, message_put, owed_acks, owed_after, owed_with, put_messages}
+use Rattle.channel_core.specs.Encodable.{CanBeEncoded}
+use Rattle.channel_core.specs.History.{PutMessage, emissions, is_closed, lowest_unacked, message_emitted, message_put, owed_acks, owed_after, owed_with, put_messages}
 use Rattle.channel_core.specs.Laws.{EmissionsCanBeEncoded}
 use Rattle.channel_core.specs.Legal.{IsAnswered, IsLegal, answer_to_put}
 use Rattle.channel_core.proofs.HistoryLemmas.{by_pushes, emissions-push, owed_acks-push, put_messages-push}
@@ -38,7 +38,7 @@ put_room w h item n =
     (λ apart _. eqb-false count (2 ^ 63 - 1) apart))
 
 -- the message has a date, and its payload fits
-abbrev Fits : Message → Type 0
+abbrev Fits : PutMessage → Type 0
 Fits m = (0 < m.date) × (length m.item.payload ≤ max_payload)
 
 -- the number fits
@@ -46,11 +46,11 @@ abbrev IsSmall : ℕ × List ℕ → Type 0
 IsSmall p = p.0 < 2 ^ 63
 
 -- messages, owed acknowledgements and emissions that are as they should be
-record Sound (put : List Message) (owed : List (ℕ × List ℕ)) (out : List Outgoing) : Type 0 where
+record Sound (put : List PutMessage) (owed : List (ℕ × List ℕ)) (out : List Outgoing) : Type 0 where
   numbers : length put ≤ 2 ^ 63 - 1
   fit : All Fits put
   small : All IsSmall owed
-  encodable : All IsEncodable out
+  encodable : All CanBeEncoded out
 
 -- they are after a call
 abbrev SoundAfter : ℕ → List Entry → EndCall → EndAnswer → Type 0
@@ -71,7 +71,7 @@ owed_small w owed n id small all =
     (λ _. All-push IsSmall owed (n, id) all small)
 
 -- nothing is put, and nothing goes out
-same : (put : List Message) (owed : List (ℕ × List ℕ)) (out : List Outgoing)
+same : (put : List PutMessage) (owed : List (ℕ × List ℕ)) (out : List Outgoing)
     → Sound put owed out
     → Sound (put ++ []) owed (out ++ [])
 same put owed out sound = rw (append-nil put, append-nil out) sound
@@ -88,7 +88,7 @@ step w h call answer sound answered =
       quiet = λ call answer quiet _ _.
           rw (quiet.put, quiet.emitted, quiet.owed w (owed_acks w h)) (same _ _ _ sound);
       seq = λ item id now _ is fits.
-          let m : Message = record { item = item; id = id; date = max now 1 } in
+          let m : PutMessage = record { item = item; id = id; date = max now 1 } in
           let room = seq_room item id now is in
           let longer = length_push (put_messages h) m in
           let count = sound.numbers in
@@ -119,7 +119,7 @@ step w h call answer sound answered =
             numbers = rw append-nil sound.numbers;
             fit = rw append-nil sound.fit;
             small = All-drop IsSmall 1 (owed_acks w h) sound.small;
-            encodable = All-push IsEncodable (emissions h) _ sound.encodable
+            encodable = All-push CanBeEncoded (emissions h) _ sound.encodable
                 (All-head IsSmall p owed small, omega arith);
           };
       emit_stream = λ now n m below _ is _ _.
@@ -130,7 +130,7 @@ step w h call answer sound answered =
             numbers = rw append-nil sound.numbers;
             fit = rw append-nil sound.fit;
             small = sound.small;
-            encodable = All-push IsEncodable (emissions h) _ sound.encodable (omega arith, fits.0, fits.1);
+            encodable = All-push CanBeEncoded (emissions h) _ sound.encodable (omega arith, fits.0, fits.1);
           };
     })
     call answer answered answered
@@ -152,7 +152,7 @@ sound_start w =
       numbers = omega arith;
       fit = All-nil Fits;
       small = All-nil IsSmall;
-      encodable = All-nil IsEncodable;
+      encodable = All-nil CanBeEncoded;
     }
 
 -- so they are after each history

@@ -12,7 +12,7 @@ use Rattle.channel_core.specs.declared.pulling.Outgoing.{Outgoing}
 use Rattle.channel_core.specs.declared.pulling.Pull.{Pull}
 use Rattle.channel_core.specs.Call.{Entry}
 use Rattle.channel_core.specs.Exchange.{IsHeard, IsPass, IsPulled, incoming_of, opening}
-use Rattle.channel_core.specs.History.{Message, emissions, next_in_order, put_items, put_messages, released_items, taken_items}
+use Rattle.channel_core.specs.History.{PutMessage, emissions, next_in_order, put_items, put_messages, released_items, taken_items}
 use Rattle.channel_core.specs.Laws.{ExchangeReleasesAll}
 use Rattle.channel_core.specs.Legal.{IsAnswered}
 use Rattle.channel_core.specs.Numbers.{has_number, numbers_of}
@@ -21,7 +21,7 @@ use Rattle.channel_core.proofs.AgreementLemmas.{Agree, agree}
 use Rattle.channel_core.proofs.DeliveryLemmas.{released_items-front}
 use Rattle.channel_core.proofs.HistoryLemmas.{is_paused-push, is_up-push, sent_since_opened-push}
 use Rattle.channel_core.proofs.NumberLemmas.{least_absent-is}
-use Rattle.channel_core.proofs.SoundLemmas.{IsSound, sound}
+use Rattle.channel_core.proofs.SoundLemmas.{IsConsistent, sound}
 use Rattle.channel_core.proofs.WorldLemmas.{append_two, IsHonest-push, IsLegalWorld-front, IsLegalWorld-pushed, WasEmitted-of, history_of-away, history_of-here, history_of-there, other-other}
 use Rattle.channel_core.proofs.PassLemmas.{AllTaken, BothReady, GoesOn, Hears, IsPassed, IsReady, Unclosed, Unclosed-front, goes_on, goes_on-join, hears, idle_passed, idle_taken, passed, pulled, ready_back}
 
@@ -102,7 +102,7 @@ pass_after w side (x ∷ []) world pass legal honest unclosed ready =
     record {
       honest = IsHonest-push world x honest (rw pass.call tt);
       on = goes_on side world next (rw (s1, r1) both);
-      all = rw (s1, r1) (λ n below. all n (subst (λ (ms : List Message). n < length ms) both.put_s below));
+      all = rw (s1, r1) (λ n below. all n (subst (λ (ms : List PutMessage). n < length ms) both.put_s below));
     }
 pass_after w side (x ∷ y ∷ xs) world pass legal honest unclosed ready =
     let two = (world ++ x ∷ []) ++ y ∷ [] in
@@ -171,7 +171,7 @@ openings_parts world to_agent to_plugin plugin agent =
 -- all that is taken in full is released in full
 all_released : (w : ℕ) (s r : List Entry)
     → Agree w s r
-    → IsSound w r
+    → IsConsistent w r
     → AllTaken s r
     → released_items r ≡ put_items s
 all_released w s r agree sound all =
@@ -208,7 +208,7 @@ exchange_releases_all w world xs side legal honest exchange unclosed =
     let plugin : AllTaken (history_of Plugin end) (history_of Agent end)
     = λ n below.
     to_plugin.on.taken Agent n
-    (to_agent.all n (subst (λ (ms : List Message). n < length ms) (to_plugin.on.put Plugin) below)) in
+    (to_agent.all n (subst (λ (ms : List PutMessage). n < length ms) (to_plugin.on.put Plugin) below)) in
     let ends = agree w end legal_end to_plugin.honest side in
     let sound_r = sound w (history_of (other side) end) (legal_end (other side)) in
     subst

@@ -7,7 +7,7 @@ use Rattle.std.proofs.lemmas.List.Elements.{filter_map-append}
 use Rattle.std.proofs.lemmas.List.Folds.{list_any-append}
 use Rattle.chan_values.specs.declared.item.Item.{Item}
 use Rattle.channel_core.specs.Call.{Entry, earlier_from, with_earlier}
-use Rattle.channel_core.specs.History.{Message, acked_numbers, closes, emissions, is_closed, is_paused, is_up, item_taken, items_released, message_emitted, message_put, number_acked, owed_acks, owed_after, paused_after, put_items, put_messages, released_items, taken_items, up_after}
+use Rattle.channel_core.specs.History.{PutMessage, acked_numbers, closes, emissions, is_closed, is_paused, is_up, item_taken, items_released, message_emitted, message_put, number_acked, owed_acks, owed_after, paused_after, put_items, put_messages, released_items, taken_items, up_after}
 use Rattle.channel_core.specs.Resending.{marked_after, marked_due, number_transmitted, round_trip_samples, sample_of, sent_after, sent_since_opened, transmissions}
 
 -- what holds of the empty list, and of one element more, holds of each list
@@ -50,9 +50,9 @@ pub put_items-push : (h : List Entry) (e : Entry)
     → put_items (h ++ e ∷ [])
     ≡ put_items h ++ map (λ m. m.item) (cons_option (message_put e.answer e.call) [])
 put_items-push h e =
-    ap (map (λ (m : Message). m.item)) (put_messages-push h e)
+    ap (map (λ (m : PutMessage). m.item)) (put_messages-push h e)
     ∙ map-append
-    (λ (m : Message). m.item) (put_messages h) (cons_option (message_put e.answer e.call) [])
+    (λ (m : PutMessage). m.item) (put_messages h) (cons_option (message_put e.answer e.call) [])
 
 pub acked_numbers-push : (h : List Entry) (e : Entry)
     → acked_numbers (h ++ e ∷ []) ≡ acked_numbers h ++ cons_option (number_acked e.answer) []

@@ -12,7 +12,7 @@ use Rattle.channel_core.specs.declared.pulling.Outgoing.{Outgoing}
 use Rattle.channel_core.specs.declared.pulling.Pull.{Pull}
 use Rattle.channel_core.specs.declared.put.Put.{Put}
 use Rattle.channel_core.specs.Call.{Entry, with_earlier}
-use Rattle.channel_core.specs.History.{Message, acked_numbers, emitted_numbers, is_closed, is_paused, is_up, item_taken, items_released, lowest_unacked, message_emitted, message_put, next_in_order, number_acked, owed_acks, owed_after, put_messages, taken_items}
+use Rattle.channel_core.specs.History.{PutMessage, acked_numbers, emitted_numbers, is_closed, is_paused, is_up, item_taken, items_released, lowest_unacked, message_emitted, message_put, next_in_order, number_acked, owed_acks, owed_after, put_messages, taken_items}
 use Rattle.channel_core.specs.Legal.{IsAnswered, IsLegal, IsNoMemory, answer_to, answer_to_ack, answer_to_heard, answer_to_incoming, answer_to_pull, answer_to_put, answer_to_stream, answer_to_tick, emit_message, emit_next, emit_number, items_released_by}
 use Rattle.channel_core.specs.Numbers.{has_number, least_below, numbers_of}
 use Rattle.channel_core.specs.Resending.{is_eligible}
@@ -133,7 +133,7 @@ pub pull_cases : (w : ℕ) (h : List Entry) (now : ℕ) (P : Pull → Type 0)
     → ((p : ℕ × List ℕ) (owed : List (ℕ × List ℕ))
     → owed_acks w h ≡ p ∷ owed
     → P (Pull.Emit (Outgoing.Ack p.0 p.1 (max now 1))))
-    → ((n : ℕ) (m : Message)
+    → ((n : ℕ) (m : PutMessage)
     → n < length (put_messages h)
     → is_eligible h n ≡ true
     → slice_get (put_messages h) n ≡ Some m
@@ -145,7 +145,7 @@ pull_cases w h now P idle ack stream =
     (λ _. idle)
     (λ _. next (owed_acks w h) refl)
   where
-    message : (n : ℕ) (o : Option Message)
+    message : (n : ℕ) (o : Option PutMessage)
         → n < length (put_messages h)
         → is_eligible h n ≡ true
         → slice_get (put_messages h) n ≡ o
@@ -199,7 +199,7 @@ pub record Cases (w : ℕ) (h : List Entry) (P : EndCall → EndAnswer → Type 
   pub emit_ack : (now : ℕ) (p : ℕ × List ℕ) (owed : List (ℕ × List ℕ))
       → owed_acks w h ≡ p ∷ owed
       → P (EndCall.Pull now) (EndAnswer.Pull (Pull.Emit (Outgoing.Ack p.0 p.1 (max now 1))))
-  pub emit_stream : (now n : ℕ) (m : Message)
+  pub emit_stream : (now n : ℕ) (m : PutMessage)
       → n < length (put_messages h)
       → is_eligible h n ≡ true
       → slice_get (put_messages h) n ≡ Some m

@@ -15,7 +15,7 @@ use Rattle.channel_core.specs.declared.pulling.Outgoing.{Outgoing}
 use Rattle.channel_core.specs.declared.pulling.Pull.{Pull}
 use Rattle.channel_core.specs.Call.{Entry}
 use Rattle.channel_core.specs.Exchange.{IsPulled, incoming_of}
-use Rattle.channel_core.specs.History.{Message, acked_numbers, closes, emissions, is_closed, is_paused, is_up, item_taken, message_put, owed_acks, paused_after, put_messages, taken_items, up_after}
+use Rattle.channel_core.specs.History.{PutMessage, acked_numbers, closes, emissions, is_closed, is_paused, is_up, item_taken, message_put, owed_acks, paused_after, put_messages, taken_items, up_after}
 use Rattle.channel_core.specs.Legal.{IsAnswered, answer_to_heard, answer_to_incoming, answer_to_pull, emit_message, emit_next, emit_number}
 use Rattle.channel_core.specs.Numbers.{has_number, least_below, numbers_of}
 use Rattle.channel_core.specs.Resending.{is_eligible, sent_after, sent_since_opened}
@@ -226,13 +226,13 @@ idle_next h now (p ∷ owed) running idle = cc
 idle_next h now [] running idle =
     number (least_below (is_eligible h) (length (put_messages h))) refl (rw running at idle)
   where
-    message : (n : ℕ) (o : Option Message)
+    message : (n : ℕ) (o : Option PutMessage)
         → n < length (put_messages h)
         → slice_get (put_messages h) n ≡ o
         → emit_message n o ≡ Pull.Idle
         → ⊥
     message n None below is idle =
-        let m : Message = record { item = record { ptype = 0; payload = [] }; id = []; date = 0 } in
+        let m : PutMessage = record { item = record { ptype = 0; payload = [] }; id = []; date = 0 } in
         let value = slice_get-get_or (put_messages h) n m below in
         cc
     message n (Some m) below is idle = cc

@@ -7,7 +7,7 @@ use Rattle.std.proofs.lemmas.Bool.{cases_Bool, cases_eq, eq-eqb, ne_eqb}
 use Rattle.std.proofs.lemmas.List.{length_push}
 use Rattle.std.proofs.lemmas.List.Elements.{filter_map-append}
 use Rattle.resend_queue.specs.Queue.{Pending, changed_at, marked, new_message, transmitted, unsent}
-use Rattle.channel_core.specs.History.{Message}
+use Rattle.channel_core.specs.History.{PutMessage}
 use Rattle.channel_core.specs.Numbers.{has_number}
 use Rattle.channel_core.specs.Resending.{last_moment}
 use Rattle.channel_core.proofs.NumberLemmas.{has_number-kept, has_number-last, has_number-other, has_number-without}
@@ -15,7 +15,7 @@ use Rattle.channel_core.proofs.ItemLemmas.{filter_map-agree, range_with_len-add}
 
 -- what a history tells of the messages that were put in
 pub record Sending : Type 0 where
-  pub put : List Message
+  pub put : List PutMessage
   pub acked : List ℕ
   pub emitted : List ℕ
   pub moments : List (ℕ × ℕ)
@@ -23,7 +23,7 @@ pub record Sending : Type 0 where
   pub due : List ℕ
 
 -- what is kept of a message
-abbrev pub message_of : Sending → ℕ → Message → Pending
+abbrev pub message_of : Sending → ℕ → PutMessage → Pending
 message_of s n m =
     record {
       seq = n;
@@ -153,7 +153,7 @@ last_moment-other moments n k now apart =
     ∙ rw (ne_eqb k n apart) refl
 
 -- a put
-pub kept_all-put : (s : Sending) (m : Message)
+pub kept_all-put : (s : Sending) (m : PutMessage)
     → has_number s.acked (length s.put) ≡ false
     → has_number s.emitted (length s.put) ≡ false
     → has_number s.sent (length s.put) ≡ false
@@ -175,14 +175,14 @@ kept_all-put s m acked emitted sent due =
     ∙ ap (λ (l : List Pending). l ++ new_message len m.item m.id m.date ∷ [])
     (filter_map-agree (kept_at after) (kept_at s) 0 len
     (λ k low high. ap
-    (λ (o : Option Message). cond (has_number s.acked k) None (option_map (message_of s k) o))
+    (λ (o : Option PutMessage). cond (has_number s.acked k) None (option_map (message_of s k) o))
     (slice_get-front s.put m k (λ e. omega arith))))
 
 -- each kept message has its number
 pub kept_at-seq : (s : Sending) (n : ℕ) (p : Pending) → kept_at s n ≡ Some p → p.seq ≡ n
 kept_at-seq s n p is = at (has_number s.acked n) (slice_get s.put n) is
   where
-    at : (b : Bool) (o : Option Message)
+    at : (b : Bool) (o : Option PutMessage)
         → cond b None (option_map (message_of s n) o) ≡ Some p
         → p.seq ≡ n
     at true o is = cc
@@ -227,7 +227,7 @@ changed : (s after : Sending) (n : ℕ) (change : Pending → Pending) → after
     (kept_at s k))
     → kept_all after ≡ changed_at n change (kept_all s)
 changed s after n change put each =
-    ap (λ (ms : List Message). filter_map (kept_at after) (range_with_len 0 (length ms))) put
+    ap (λ (ms : List PutMessage). filter_map (kept_at after) (range_with_len 0 (length ms))) put
     ∙ same_over (kept_at after)
     (λ k. option_map (λ (p : Pending). cond (eqb p.seq n) (change p) p) (kept_at s k))
     (length s.put) each
@@ -238,13 +238,13 @@ changed s after n change put each =
 changed_kept : (s after : Sending) (n k : ℕ) (change : Pending → Pending)
     → has_number after.acked k ≡ has_number s.acked k
     → slice_get after.put k ≡ slice_get s.put k
-    → ((m : Message) → message_of after k m ≡ cond (eqb k n) (change (message_of s k m))
+    → ((m : PutMessage) → message_of after k m ≡ cond (eqb k n) (change (message_of s k m))
     (message_of s k m))
     → kept_at after k ≡ option_map (λ (p : Pending). cond (eqb p.seq n) (change p) p) (kept_at s k)
 changed_kept s after n k change acked put each =
     rw (acked, put) (at (has_number s.acked k) (slice_get s.put k))
   where
-    at : (b : Bool) (o : Option Message)
+    at : (b : Bool) (o : Option PutMessage)
         → cond b None (option_map (message_of after k) o) ≡ option_map
         (λ (p : Pending). cond (eqb p.seq n) (change p) p)
         (cond b None (option_map (message_of s k) o))
@@ -307,7 +307,7 @@ kept_all-unsent s =
     (λ k. at k (has_number s.acked k) (slice_get s.put k))
     ∙ sym (map-filter_map unsent (kept_at s) (range_with_len 0 (length s.put)))
   where
-    at : (k : ℕ) (b : Bool) (o : Option Message)
+    at : (k : ℕ) (b : Bool) (o : Option PutMessage)
         → cond b None (option_map (message_of (record s { sent = [] }) k) o) ≡ option_map unsent
         (cond b None (option_map (message_of s k) o))
     at k true o = refl

@@ -11,7 +11,7 @@ use Rattle.channel_core.specs.declared.call.EndCall.{EndCall}
 use Rattle.channel_core.specs.declared.pulling.Outgoing.{Outgoing}
 use Rattle.channel_core.specs.declared.pulling.Pull.{Pull}
 use Rattle.channel_core.specs.Call.{Entry}
-use Rattle.channel_core.specs.History.{Message, acked_numbers, emitted_numbers, is_closed, is_up, lowest_unacked, owed_acks, put_messages}
+use Rattle.channel_core.specs.History.{PutMessage, acked_numbers, emitted_numbers, is_closed, is_up, lowest_unacked, owed_acks, put_messages}
 use Rattle.channel_core.specs.Legal.{IsLegal, answer_to_pull, emit_message, emit_next, emit_number}
 use Rattle.channel_core.specs.Numbers.{has_number, least_below}
 use Rattle.channel_core.specs.Resending.{due_count, is_eligible, marked_due, sent_since_opened, transmissions}
@@ -100,7 +100,7 @@ may_go_at h n = at (has_number (acked_numbers h) n) (slice_get (put_messages h) 
     go : Bool
     go = not (has_number (sent_since_opened h) n) || has_number (marked_due h) n
 
-    at : (b : Bool) (o : Option Message) → slice_get (put_messages h) n ≡ o
+    at : (b : Bool) (o : Option PutMessage) → slice_get (put_messages h) n ≡ o
         → passes_at may_go (cond b None (option_map (message_of (sending h) n) o)) ≡
         (ltb n (length (put_messages h)) &&
         (not b && (not (has_number (sent_since_opened h) n) || has_number (marked_due h) n)))
@@ -133,7 +133,7 @@ emit_number-out h =
     ∙ at (least_below (is_eligible h) (length (put_messages h)))
     (λ n is. (least_below-some (is_eligible h) (length (put_messages h)) n is).1))
   where
-    message : (n : ℕ) (b : Bool) (o : Option Message)
+    message : (n : ℕ) (b : Bool) (o : Option PutMessage)
         → passes_at may_go (cond b None (option_map (message_of (sending h) n) o)) ≡ true
         → pull_of (out_of (cond b None (option_map (message_of (sending h) n) o)))
         ≡ emit_message n o

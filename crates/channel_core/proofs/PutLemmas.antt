@@ -9,7 +9,7 @@ use Rattle.channel_core.specs.declared.call.EndAnswer.{EndAnswer}
 use Rattle.channel_core.specs.declared.call.EndCall.{EndCall}
 use Rattle.channel_core.specs.declared.put.Put.{Put}
 use Rattle.channel_core.specs.Call.{Entry}
-use Rattle.channel_core.specs.History.{Message, acked_numbers, closes, emitted_numbers, is_closed, lowest_unacked, owed_after, paused_after, put_messages}
+use Rattle.channel_core.specs.History.{PutMessage, acked_numbers, closes, emitted_numbers, is_closed, lowest_unacked, owed_after, paused_after, put_messages}
 use Rattle.channel_core.specs.Legal.{IsLegal, answer_to_put}
 use Rattle.channel_core.specs.Numbers.{has_number}
 use Rattle.channel_core.specs.Resending.{due_count, marked_due, sent_since_opened}
@@ -76,7 +76,7 @@ seq_goes : (w : ℕ) (h : List Entry) (item : Item) (id : List ℕ) (now : ℕ) 
 seq_goes w h item id now old new legal s is given =
     let t = sending h in
     let n = length (put_messages h) in
-    let m : Message = record { item = item; id = id; date = max now 1 } in
+    let m : PutMessage = record { item = item; id = id; date = max now 1 } in
     let e : Entry = record { call = EndCall.Put item id now; answer = EndAnswer.Put (Put.Seq n) } in
     let order = orderly w h legal in
     let none : (l : List ℕ) →

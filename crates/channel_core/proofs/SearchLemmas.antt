@@ -5,7 +5,7 @@ use Rattle.std.specs.Option.{option_and_then}
 use Rattle.std.proofs.lemmas.Bool.{cases_Bool, cases_eq, cases_lt, eq-eqb, ne_eqb}
 use Rattle.std.proofs.lemmas.List.Elements.{filter_map-append}
 use Rattle.resend_queue.specs.Queue.{Pending, first_number}
-use Rattle.channel_core.specs.History.{Message}
+use Rattle.channel_core.specs.History.{PutMessage}
 use Rattle.channel_core.specs.Numbers.{has_number, least_absent, least_below, or_else}
 use Rattle.channel_core.proofs.NumberLemmas.{least_absent-is, least_below-some}
 use Rattle.channel_core.proofs.ItemLemmas.{range_with_len-add}
@@ -77,9 +77,9 @@ pub message_at-past : (s : Sending) (n : ℕ) → length s.put ≤ n → message
 message_at-past s n past = rw (slice_get-past s.put n past) refl
 
 -- a number below the count has a message
-pub message_there : (put : List Message) (n : ℕ)
+pub message_there : (put : List PutMessage) (n : ℕ)
     → n < length put
-    → (m : Message) × (slice_get put n ≡ Some m)
+    → (m : PutMessage) × (slice_get put n ≡ Some m)
 message_there [] n within = absurd (omega arith)
 message_there (m ∷ put) zero within = (m, refl)
 message_there (m ∷ put) (suc n) within = message_there put n (omega arith)
@@ -182,7 +182,7 @@ kept_all-from_low s low_le =
 
 -- the lowest unacknowledged message is the first
 pub kept_all-first : (s : Sending) → least_absent s.acked < length s.put
-    → (m : Message) × (rest : List Pending) × (slice_get s.put (least_absent s.acked) ≡ Some m) ×
+    → (m : PutMessage) × (rest : List Pending) × (slice_get s.put (least_absent s.acked) ≡ Some m) ×
     (kept_all s ≡ message_of s (least_absent s.acked) m ∷ rest)
 kept_all-first s low_lt =
     let low = least_absent s.acked in

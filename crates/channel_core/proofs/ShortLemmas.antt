@@ -13,7 +13,7 @@ use Rattle.channel_core.specs.declared.pulling.Outgoing.{Outgoing}
 use Rattle.channel_core.specs.declared.pulling.Pull.TheVariants as Pull
 use Rattle.channel_core.specs.Call.{Entry}
 use Rattle.channel_core.specs.Exchange.{IsPass, incoming_of, is_pull, opening, pull_count}
-use Rattle.channel_core.specs.History.{Message, acked_numbers, lowest_unacked, message_emitted, message_put, number_acked, owed_acks, owed_after, put_messages}
+use Rattle.channel_core.specs.History.{PutMessage, acked_numbers, lowest_unacked, message_emitted, message_put, number_acked, owed_acks, owed_after, put_messages}
 use Rattle.channel_core.specs.Laws.{ExchangeIsShort}
 use Rattle.channel_core.specs.Legal.{IsAnswered}
 use Rattle.channel_core.specs.Numbers.{has_number}
@@ -23,18 +23,18 @@ use Rattle.channel_core.proofs.ExchangeLemmas.{openings, openings_parts}
 use Rattle.channel_core.proofs.HistoryLemmas.{acked_numbers-push, marked_due-push, owed_acks-push, put_messages-push, sent_since_opened-push}
 use Rattle.channel_core.proofs.LegalLemmas.{by_cases}
 use Rattle.channel_core.proofs.NumberLemmas.{has_number-kept, has_number-last, has_number-other, has_number-without, least_absent-is}
-use Rattle.channel_core.proofs.SoundLemmas.{IsSound, sound}
+use Rattle.channel_core.proofs.SoundLemmas.{IsConsistent, sound}
 use Rattle.channel_core.proofs.WorldLemmas.{append_two, IsLegalWorld-front, IsLegalWorld-pushed, cases_side, entry_at-other, entry_at-same, history_of-here, history_of-there, other-other}
 use Rattle.channel_core.proofs.CountLemmas.{count_below, count_below-few, count_below-less}
 
 -- whether a number may go
-abbrev may_go : List Message → List ℕ → List ℕ → List ℕ → ℕ → Bool
+abbrev may_go : List PutMessage → List ℕ → List ℕ → List ℕ → ℕ → Bool
 may_go put acked sent marked n =
     ltb n (length put)
     && (not (has_number acked n) && (not (has_number sent n) || has_number marked n))
 
 -- how much an end has to emit: the acknowledgements owed and the numbers that may go
-abbrev backlog_of : List (ℕ × List ℕ) → List Message → List ℕ → List ℕ → List ℕ → ℕ
+abbrev backlog_of : List (ℕ × List ℕ) → List PutMessage → List ℕ → List ℕ → List ℕ → ℕ
 backlog_of owed put acked sent marked =
     length owed
     + count_below
@@ -56,7 +56,7 @@ backlog_after w h call answer =
     (marked_after (marked_due h) answer)
 
 -- equal parts make an equal backlog
-backlog_of-same : {owed owed' : List (ℕ × List ℕ)} {put put' : List Message}
+backlog_of-same : {owed owed' : List (ℕ × List ℕ)} {put put' : List PutMessage}
     {acked acked' sent sent' marked marked' : List ℕ}
     → owed ≡ owed'
     → put ≡ put'
@@ -130,7 +130,7 @@ acked_fails true = refl
 acked_fails false = refl
 
 -- a backlog is at most twice the window
-pub backlog-le : (w : ℕ) (h : List Entry) → IsSound w h → backlog w h ≤ 2 * w
+pub backlog-le : (w : ℕ) (h : List Entry) → IsConsistent w h → backlog w h ≤ 2 * w
 backlog-le w h sound =
     let few = count_below-few (is_eligible h) (length (put_messages h)) (lowest_unacked h)
     (λ k below.

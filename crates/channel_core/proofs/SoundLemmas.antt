@@ -14,7 +14,7 @@ use Rattle.receive_window.specs.Window.{items_in_order}
 use Rattle.channel_core.specs.declared.call.EndAnswer.{EndAnswer}
 use Rattle.channel_core.specs.declared.call.EndCall.{EndCall}
 use Rattle.channel_core.specs.Call.{Entry}
-use Rattle.channel_core.specs.History.{Message, acked_numbers, early_items, item_taken, items_released, lowest_unacked, message_put, next_in_order, number_acked, owed_acks, owed_after, owed_with, put_messages, released_items, taken_items}
+use Rattle.channel_core.specs.History.{PutMessage, acked_numbers, early_items, item_taken, items_released, lowest_unacked, message_put, next_in_order, number_acked, owed_acks, owed_after, owed_with, put_messages, released_items, taken_items}
 use Rattle.channel_core.specs.Laws.{IsWithinWindow}
 use Rattle.channel_core.specs.Legal.{IsAnswered, IsLegal, items_released_by}
 use Rattle.channel_core.specs.Numbers.{has_number, least_absent, numbers_of}
@@ -24,7 +24,7 @@ use Rattle.channel_core.proofs.LegalLemmas.{IsLegal-pushed, by_cases}
 use Rattle.channel_core.proofs.NumberLemmas.{least_absent-grows, least_absent-is}
 
 -- what is read off a legal history
-pub record IsSound (w : ℕ) (h : List Entry) : Type 0 where
+pub record IsConsistent (w : ℕ) (h : List Entry) : Type 0 where
   pub room : length (put_messages h) ≤ lowest_unacked h + w
   pub near : All (λ p. p.0 < next_in_order h + w) (taken_items h)
   pub once : AllPairs (λ p q. p.0 ≢ q.0) (taken_items h)
@@ -46,7 +46,7 @@ room_after w h call answer room answered =
     (record {
       quiet = λ call answer quiet. rw quiet.put same;
       seq = λ item id now apart.
-          let m : Message = record { item = item; id = id; date = max now 1 } in
+          let m : PutMessage = record { item = item; id = id; date = max now 1 } in
           omega (arith, length-append (put_messages h) (m ∷ []));
       late = λ now n id item there. same;
       released = λ now n id item absent near. same;
@@ -137,9 +137,9 @@ in_order_after w h call answer in_order answered =
 
 -- an entry with its answer keeps it all
 sound_after : (w : ℕ) (h : List Entry) (e : Entry)
-    → IsSound w h
+    → IsConsistent w h
     → IsAnswered w h e.call e.answer
-    → IsSound w (h ++ e ∷ [])
+    → IsConsistent w (h ++ e ∷ [])
 sound_after w h e sound answered =
     let new : List (ℕ × Item) = cons_option (item_taken e.answer e.call) [] in
     let is_new = new_taken w h e.call e.answer answered in
@@ -183,7 +183,7 @@ sound_after w h e sound answered =
         (λ (p q : ℕ × Item). p.0 ≢ q.0)
         (taken_items h) p sound.once (numbers_apart (taken_items h) p.0 is_new.1)
 
-sound_nil : (w : ℕ) → IsSound w []
+sound_nil : (w : ℕ) → IsConsistent w []
 unfolding put_messages acked_numbers taken_items released_items owed_acks least_absent
 sound_nil w =
     record {
@@ -195,10 +195,10 @@ sound_nil w =
     }
 
 -- each legal history is sound
-pub sound : (w : ℕ) (h : List Entry) → IsLegal w h → IsSound w h
+pub sound : (w : ℕ) (h : List Entry) → IsLegal w h → IsConsistent w h
 sound w h =
     by_pushes
-    (λ h. IsLegal w h → IsSound w h)
+    (λ h. IsLegal w h → IsConsistent w h)
     (λ legal. sound_nil w)
     (λ h e before legal.
     let parts = IsLegal-pushed w h e legal in sound_after w h e (before parts.0) parts.1)
@@ -282,7 +282,7 @@ filter_range-few test bound n fails =
     (cases_lt n bound)
 
 -- a sound history is within the window
-pub within_window : (w : ℕ) (h : List Entry) → IsSound w h → IsWithinWindow w h
+pub within_window : (w : ℕ) (h : List Entry) → IsConsistent w h → IsWithinWindow w h
 within_window w h sound =
     let next = next_in_order h in
     let Near : ℕ × Item → Type 0 = λ p. p.0 < next + w in

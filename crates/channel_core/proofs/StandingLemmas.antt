@@ -9,7 +9,7 @@ use Rattle.receive_window.specs.Window.{WindowState, empty_window, item_with}
 use Rattle.channel_core.specs.declared.call.EndAnswer.{EndAnswer}
 use Rattle.channel_core.specs.declared.call.EndCall.{EndCall}
 use Rattle.channel_core.specs.Call.{Entry, with_earlier}
-use Rattle.channel_core.specs.History.{Message, acked_numbers, closes, is_closed, is_paused, is_up, item_taken, lowest_unacked, number_acked, owed_acks, owed_after, paused_after, put_messages, taken_items, up_after}
+use Rattle.channel_core.specs.History.{PutMessage, acked_numbers, closes, is_closed, is_paused, is_up, item_taken, lowest_unacked, number_acked, owed_acks, owed_after, paused_after, put_messages, taken_items, up_after}
 use Rattle.channel_core.specs.Legal.{IsAnswered, IsLegal}
 use Rattle.channel_core.specs.Numbers.{least_absent, numbers_of}
 use Rattle.channel_core.specs.Resending.{due_count, is_due, round_trip_samples, sample_of}
@@ -149,7 +149,7 @@ dues-same h e none =
     ∙ due_count-push h e (lowest_unacked h)
 
 -- a message was put
-pub sending-put : (s : Sending) (m : Message)
+pub sending-put : (s : Sending) (m : PutMessage)
     → record {
       put = s.put ++ m ∷ [];
       acked = s.acked ++ [];

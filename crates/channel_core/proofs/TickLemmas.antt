@@ -9,7 +9,7 @@ use Rattle.channel_core.specs.declared.call.EndCall.{EndCall}
 use Rattle.channel_core.specs.declared.look.Look.{Look}
 use Rattle.channel_core.specs.declared.tick.Tick.{Tick}
 use Rattle.channel_core.specs.Call.{Entry}
-use Rattle.channel_core.specs.History.{Message, emitted_numbers, is_closed, is_up, lowest_unacked, put_messages}
+use Rattle.channel_core.specs.History.{PutMessage, emitted_numbers, is_closed, is_up, lowest_unacked, put_messages}
 use Rattle.channel_core.specs.Legal.{IsAnswered, IsLegal, answer_to_tick, is_expired, look_at}
 use Rattle.channel_core.specs.Numbers.{has_number}
 use Rattle.channel_core.specs.Resending.{due_count, last_moment, marked_due, round_trip, sent_since_opened, transmissions}
@@ -44,7 +44,7 @@ tick_of (Mark.Due n) = Tick.Due n
 tick_of (Mark.GaveUp n) = Tick.GaveUp n
 
 -- the timer of a message expires where the history says so
-overdue-expired : (h : List Entry) (n now : ℕ) (m : Message) → IsOrderly (sending h)
+overdue-expired : (h : List Entry) (n now : ℕ) (m : PutMessage) → IsOrderly (sending h)
     → is_overdue (message_of (sending h) n m) now (round_trip h).timeout ≡ is_expired h n now
 overdue-expired h n now m order =
     at (has_number (sent_since_opened h) n) (has_number (emitted_numbers h) n) (order.sent n)

@@ -5,7 +5,7 @@ use Rattle.chan_values.specs.declared.side.Side.{Side}
 use Rattle.chan_values.specs.declared.side.Side.TheVariants.{Plugin, Agent}
 use Rattle.chan_values.specs.Sides.{other}
 use Rattle.json_bodies.proofs.LengthLemmas.{length-ack_text}
-use Rattle.channel_core.specs.Wire.{ack_body, data_name, message_of, IsEncodable}
+use Rattle.channel_core.specs.Wire.{ack_body, data_name, message_of, CanBeEncoded}
 use Rattle.channel_core.specs.declared.pulling.Outgoing.{Outgoing}
 
 -- the number of an acknowledgement is in its range
@@ -17,7 +17,7 @@ length-data_name Plugin = omega arith
 length-data_name Agent = omega arith
 
 -- the payload of what is encodable fits into a message
-pub length-payload : (side : Side) (out : Outgoing) → IsEncodable out → length (message_of side out).payload ≤ 65536
+pub length-payload : (side : Side) (out : Outgoing) → CanBeEncoded out → length (message_of side out).payload ≤ 65536
 length-payload side (Outgoing.Stream sent) encodable = encodable.2
 length-payload side (Outgoing.Ack seq id date) encodable =
     omega (arith, length-ack_text (ack_body side seq id) (fits_signed seq encodable.0), length-data_name (other side))

@@ -84,10 +84,10 @@ Arrives side bytes answer =
     × (answer ≡ Err (InRefusal.Message refusal)))
 
 -- the answer, unless memory ran out
-abbrev pub UnlessNoMemory : Answer → Answer → Type 0
-UnlessNoMemory result answer = (result ≡ answer) ⊎ (result ≡ Err InRefusal.NoMemory)
+abbrev pub AnswerOrNoMemory : Answer → Answer → Type 0
+AnswerOrNoMemory result answer = (result ≡ answer) ⊎ (result ≡ Err InRefusal.NoMemory)
 
 -- the result is an answer of the relation, and no other is, unless memory ran out
 pub record IsAnswer (Gives : Answer → Type 0) (result : Answer) : Type 0 where
   pub given : Gives result ⊎ (result ≡ Err InRefusal.NoMemory)
-  pub only : (answer : Answer) → Gives answer → UnlessNoMemory result answer
+  pub only : (answer : Answer) → Gives answer → AnswerOrNoMemory result answer

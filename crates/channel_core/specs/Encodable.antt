@@ -5,9 +5,9 @@ use Rattle.channel_core.specs.declared.pulling.Outgoing.{Outgoing}
 use Rattle.channel_core.specs.declared.pulling.Pull.{Pull}
 
 -- the number is below 2^63, the date isn't 0, and the payload is at most 65,536 bytes
-abbrev pub IsEncodable : Outgoing → Type 0
-IsEncodable (Outgoing.Stream sent) = queue.IsEncodable sent
-IsEncodable (Outgoing.Ack n id date) = (n < 2 ^ 63) × (0 < date)
+abbrev pub CanBeEncoded : Outgoing → Type 0
+CanBeEncoded (Outgoing.Stream sent) = queue.IsEncodable sent
+CanBeEncoded (Outgoing.Ack n id date) = (n < 2 ^ 63) × (0 < date)
 
 -- what a pull gives out, if anything
 abbrev pub IfEmitted : Pull → (Outgoing → Type 0) → Type 0

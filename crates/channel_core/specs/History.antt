@@ -14,7 +14,7 @@ use Rattle.channel_core.specs.Call.{Entry}
 use Rattle.channel_core.specs.Numbers.{has_number, least_absent, numbers_of}
 
 -- a message as it was put in; its number is its place among them
-pub record Message : Type 0 where
+pub record PutMessage : Type 0 where
   pub item : Item
   -- MessageId
   pub id : List ℕ
@@ -22,13 +22,13 @@ pub record Message : Type 0 where
   pub date : ℕ
 
 -- the message that this call put in
-abbrev pub message_put : EndAnswer → EndCall → Option Message
+abbrev pub message_put : EndAnswer → EndCall → Option PutMessage
 message_put (EndAnswer.Put (Put.Seq n)) (EndCall.Put item id now) =
     Some (record { item = item; id = id; date = max now 1 })
 message_put answer call = None
 
 -- the messages that were put in, in order
-unfoldable pub put_messages : List Entry → List Message
+unfoldable pub put_messages : List Entry → List PutMessage
 put_messages h = filter_map (λ e. message_put e.answer e.call) h
 
 -- the items that were put in, in order

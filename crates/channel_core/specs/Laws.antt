@@ -9,7 +9,7 @@ use Rattle.channel_core.specs.declared.call.EndAnswer.TheVariants as EndAnswer
 use Rattle.channel_core.specs.declared.hearing.Heard.TheVariants as Heard
 use Rattle.channel_core.specs.Call.{Entry}
 use Rattle.channel_core.specs.Callable.{IsCallable}
-use Rattle.channel_core.specs.Encodable.{IsEncodable}
+use Rattle.channel_core.specs.Encodable.{CanBeEncoded}
 use Rattle.channel_core.specs.Exchange.{IsExchange, pull_count}
 use Rattle.channel_core.specs.History.{acked_numbers, early_items, emissions, is_closed, next_in_order, owed_acks, put_items, released_items, taken_items, unacked_numbers}
 use Rattle.channel_core.specs.Legal.{IsAnswered, IsLegal}
@@ -93,7 +93,7 @@ EmissionsCanBeEncoded =
     (w : ℕ) (h : List Entry)
     → IsLegal w h
     → All (λ e. IsCallable e.call) h
-    → All IsEncodable (emissions h)
+    → All CanBeEncoded (emissions h)
 
 -- after one exchange without a loss, at the end of which neither end is closed, each end has
 -- released all that the other put in

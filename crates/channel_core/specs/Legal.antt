@@ -13,7 +13,7 @@ use Rattle.channel_core.specs.declared.pulling.Pull.{Pull}
 use Rattle.channel_core.specs.declared.put.Put.{Put}
 use Rattle.channel_core.specs.declared.tick.Tick.{Tick}
 use Rattle.channel_core.specs.Call.{Entry, with_earlier}
-use Rattle.channel_core.specs.History.{Message, acked_numbers, emitted_numbers, is_closed, is_paused, is_up, lowest_unacked, next_in_order, owed_acks, put_messages, taken_items}
+use Rattle.channel_core.specs.History.{PutMessage, acked_numbers, emitted_numbers, is_closed, is_paused, is_up, lowest_unacked, next_in_order, owed_acks, put_messages, taken_items}
 use Rattle.channel_core.specs.Numbers.{has_number, least_absent, least_below, numbers_of}
 use Rattle.channel_core.specs.Resending.{due_count, is_eligible, last_moment, marked_due, round_trip, sent_since_opened, transmissions}
 
@@ -59,7 +59,7 @@ answer_to_heard w h incoming =
     if is_closed h then Heard.AfterClose else answer_to_incoming w h incoming
 
 -- the message as it goes out with its number
-abbrev pub emit_message : ℕ → Option Message → Pull
+abbrev pub emit_message : ℕ → Option PutMessage → Pull
 emit_message n None = Pull.Idle
 emit_message n (Some m) =
     Pull.Emit (Outgoing.Stream (record { seq = n; id = m.id; date = m.date; item = m.item }))

@@ -10,7 +10,7 @@ use Rattle.channel_core.specs.declared.call.EndAnswer.{EndAnswer}
 use Rattle.channel_core.specs.declared.call.EndCall.{EndCall}
 use Rattle.channel_core.specs.declared.hearing.Incoming.{Incoming}
 use Rattle.channel_core.specs.Call.{Entry}
-use Rattle.channel_core.specs.History.{Message, emitted_numbers, is_closed, is_paused, is_up, lowest_unacked, next_in_order, owed_acks, put_messages, taken_items, unacked_numbers}
+use Rattle.channel_core.specs.History.{PutMessage, emitted_numbers, is_closed, is_paused, is_up, lowest_unacked, next_in_order, owed_acks, put_messages, taken_items, unacked_numbers}
 use Rattle.channel_core.specs.Legal.{IsLegal}
 use Rattle.channel_core.specs.Numbers.{has_number}
 use Rattle.channel_core.specs.Resending.{due_count, last_moment, marked_due, round_trip, sent_since_opened, transmissions}
@@ -33,7 +33,7 @@ pub record EndState : Type 0 where
   pub closed : Bool
 
 -- what the entries tell of the message with this number
-abbrev pub pending_message : List Entry → ℕ → Message → Pending
+abbrev pub pending_message : List Entry → ℕ → PutMessage → Pending
 pending_message h n m =
     record {
       seq = n;

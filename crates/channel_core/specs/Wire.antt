@@ -1,5 +1,5 @@
 -- What an end sends as bytes. The names, flags and bodies are those of AWS Session Manager's channel.
-pub use Rattle.channel_core.specs.Encodable.{IsEncodable}
+pub use Rattle.channel_core.specs.Encodable.{CanBeEncoded}
 use Rattle.std.specs.Prelude.{ℕ, ◌==◌, if◌then◌else◌, pos, true, List, codes}
 use Rattle.chan_values.specs.declared.side.Side.{Side}
 use Rattle.chan_values.specs.declared.side.Side.TheVariants.{Plugin, Agent}

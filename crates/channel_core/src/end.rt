@@ -16,7 +16,7 @@
 
 ghost use Rattle.std.specs.Prelude.{◌≡◌, ◌≤◌, ◌<◌, ◌^◌, ℕ, false, [], IfOk, length};
 ghost use Rattle.chan_values.specs.Limits.{max_payload, max_window};
-ghost use Rattle.channel_core.specs.Encodable.{IfEmitted, IsEncodable};
+ghost use Rattle.channel_core.specs.Encodable.{IfEmitted, CanBeEncoded};
 ghost use Rattle.channel_core.specs.Stands.{Follows, IsNumbered, Stands};
 ghost use Rattle.channel_core.specs.declared.call.EndAnswer.TheVariants as EndAnswer;
 ghost use Rattle.channel_core.specs.declared.call.EndCall.TheVariants as EndCall;
@@ -48,7 +48,7 @@ impl Model for End {
     ghost use Rattle.std.specs.Prelude.{◌≡◌, ◌≤◌, ◌<◌, ◌^◌, All};
     ghost use Rattle.std.specs.VecDeque.{deque_capacity};
     ghost use Rattle.chan_values.specs.Limits.{max_payload, max_window};
-    ghost use Rattle.channel_core.specs.Encodable.{IfEmitted, IsEncodable};
+    ghost use Rattle.channel_core.specs.Encodable.{IfEmitted, CanBeEncoded};
     ghost use Rattle.channel_core.specs.Stands.{EndState};
 
     ghost Value = { EndState };
@@ -131,7 +131,7 @@ impl End {
     /// The next message to transmit: an acknowledgement that is owed, or else a stream message.
     pub fn pull(&mut self, now: u64) -> Pull
         ensures follows { Follows self.old self.new (EndCall.Pull now) (EndAnswer.Pull result) }
-        ensures encodable { IfEmitted result IsEncodable }
+        ensures encodable { IfEmitted result CanBeEncoded }
     {
         if self.closed || !self.up {
             return Pull::Idle;

@@ -9,7 +9,7 @@ use Rattle.channel_core.specs.declared.call.EndAnswer.{EndAnswer}
 use Rattle.channel_core.specs.declared.call.EndCall.{EndCall}
 use Rattle.channel_core.specs.declared.pulling.Outgoing.{Outgoing}
 use Rattle.channel_core.specs.Call.{Entry}
-use Rattle.channel_core.specs.Encodable.{IsEncodable}
+use Rattle.channel_core.specs.Encodable.{CanBeEncoded}
 use Rattle.channel_core.specs.History.{emissions, message_emitted}
 use Rattle.channel_core.specs.Legal.{IsNoMemory}
 use Rattle.channel_core.specs.Stands.{EndState, Follows, Stands}
@@ -24,7 +24,7 @@ use Rattle.lab_cmd.specs.Run.{outcome_of, steps_of}
 
 -- a message of this side that has an encoding
 abbrev pub IsSendable : Side → Outgoing → Type 0
-IsSendable side out = IsEncodable out × IsMessage (message_of side out)
+IsSendable side out = CanBeEncoded out × IsMessage (message_of side out)
 
 -- all that the ends emitted in this world has an encoding
 abbrev pub AllSendable : List Event → Type 0

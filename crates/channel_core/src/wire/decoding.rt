@@ -3,10 +3,10 @@
 ghost use Rattle.std.specs.Prelude.{◌≡◌, ◌⊎◌, ◌<◌, ◌^◌, ℕ, List, Ok, IfOk, All, length};
 ghost use Rattle.chan_values.specs.Sides.{other};
 ghost use Rattle.agent_message.specs.Layout.{IsMessage};
-ghost use Rattle.channel_core.specs.Arrival.{Arrives, Hears, HearsAck, HearsClosing, HearsStream, IsAnswer, UnlessNoMemory};
+ghost use Rattle.channel_core.specs.Arrival.{Arrives, Hears, HearsAck, HearsClosing, HearsStream, IsAnswer, AnswerOrNoMemory};
 ghost use Rattle.channel_core.specs.Exchange.{incoming_of};
 ghost use Rattle.channel_core.specs.Stands.{IsNumbered};
-ghost use Rattle.channel_core.specs.Wire.{IsEncodable, ack_body, ack_message, encoding, message_of};
+ghost use Rattle.channel_core.specs.Wire.{CanBeEncoded, ack_body, ack_message, encoding, message_of};
 ghost use Rattle.channel_core.specs.declared.pulling.Outgoing.{Outgoing};
 ghost use Rattle.json_bodies.specs.Ack.{ack_text};
 
@@ -24,8 +24,8 @@ pub fn incoming(alloc: Global, side: Side, bytes: &[u8]) -> Result<Incoming, InR
     ensures numbered { IfOk result IsNumbered }
 
     // What the other side encoded is what it emitted.
-    ensures inverse { (out : Outgoing) → IsEncodable out → IsMessage (message_of (other side) out)
-        → bytes.now ≡ encoding (other side) out → UnlessNoMemory result (Ok (incoming_of out)) }
+    ensures inverse { (out : Outgoing) → CanBeEncoded out → IsMessage (message_of (other side) out)
+        → bytes.now ≡ encoding (other side) out → AnswerOrNoMemory result (Ok (incoming_of out)) }
 {
     let message = decode(alloc, bytes)?;
     hear(alloc, side, message)
@@ -37,7 +37,7 @@ fn hear(alloc: Global, side: Side, message: Message) -> Result<Incoming, InRefus
     ensures written { (seq : ℕ) (id : List ℕ) (date : ℕ) → seq < 2 ^ 63
         → length id ≡ 16 → All (λ byte. byte < 256) id
         → message ≡ ack_message (other side) seq id date
-        → UnlessNoMemory result (Ok (Incoming.Ack seq)) }
+        → AnswerOrNoMemory result (Ok (Incoming.Ack seq)) }
 {
     if message.name == data_name(side.other()) {
         stream(message)
@@ -78,7 +78,7 @@ fn acknowledgement(alloc: Global, payload: &[u8]) -> Result<Incoming, InRefusal>
     ensures written { (side : Side) (seq : ℕ) (id : List ℕ) → seq < 2 ^ 63
         → length id ≡ 16 → All (λ byte. byte < 256) id
         → payload.now ≡ ack_text (ack_body side seq id)
-        → UnlessNoMemory result (Ok (Incoming.Ack seq)) }
+        → AnswerOrNoMemory result (Ok (Incoming.Ack seq)) }
 {
     let ack = Ack::read(alloc, payload)?;
     if ack.seq < 0 {

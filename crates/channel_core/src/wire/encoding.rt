@@ -3,7 +3,7 @@
 ghost use Rattle.std.specs.Prelude.{◌≡◌, ◌<◌, ◌^◌, pos, IfOk, OnOk, length};
 ghost use Rattle.agent_message.specs.Layout.{IsMessage};
 ghost use Rattle.json_bodies.specs.Ack.{ack_text};
-ghost use Rattle.channel_core.specs.Wire.{IsEncodable, ack_body, ack_message, data_name, encoding, message_of, stream_flags, stream_message};
+ghost use Rattle.channel_core.specs.Wire.{CanBeEncoded, ack_body, ack_message, data_name, encoding, message_of, stream_flags, stream_message};
 
 use crate::pulling::Outgoing;
 use agent_message::{Message, Name, encode};
@@ -23,7 +23,7 @@ const SYN_FIN: u64 = 3;
 
 /// The bytes of what an end of this side emits.
 pub fn outgoing(alloc: Global, side: Side, out: &Outgoing) -> Result<Vec<u8>, NoMemory>
-    requires { IsEncodable out.now }
+    requires { CanBeEncoded out.now }
     ensures encoded { IfOk result (λ bytes. bytes.items ≡ encoding side out.now) }
     ensures typed { OnOk result (IsMessage (message_of side out.now)) }
 {
@@ -32,7 +32,7 @@ pub fn outgoing(alloc: Global, side: Side, out: &Outgoing) -> Result<Vec<u8>, No
 }
 
 fn message_of(alloc: Global, side: Side, out: &Outgoing) -> Result<Message, NoMemory>
-    requires { IsEncodable out.now }
+    requires { CanBeEncoded out.now }
     ensures { IfOk result (λ message. message ≡ message_of side out.now) }
 {
     match out {
