@@ -11,10 +11,11 @@ use Rattle.chan_values.specs.Sides.{other}
 use Rattle.chan_values.specs.declared.item.Item.{Item}
 use Rattle.channel_core.specs.declared.call.EndAnswer.{EndAnswer}
 use Rattle.channel_core.specs.declared.call.EndCall.{EndCall}
+use Rattle.channel_core.specs.declared.hearing.Incoming.TheVariants as Incoming
 use Rattle.channel_core.specs.declared.pulling.Outgoing.{Outgoing}
 use Rattle.channel_core.specs.Call.{Entry}
 use Rattle.channel_core.specs.History.{PutMessage, acked_numbers, emissions, item_taken, lowest_unacked, message_emitted, message_put, number_acked, owed_acks, owed_after, owed_with, put_items, put_messages, taken_items}
-use Rattle.channel_core.specs.Legal.{IsAnswered}
+use Rattle.channel_core.specs.Legal.{IsAnswered, IsNoMemory}
 use Rattle.channel_core.specs.Numbers.{has_number, numbers_of}
 use Rattle.channel_core.specs.World.{Event, IsHonest, IsLegalWorld, WasEmitted, history_of}
 use Rattle.channel_core.proofs.HistoryLemmas.{acked_numbers-push, by_pushes, emissions-push, owed_acks-push, put_items-push, taken_items-push}
@@ -85,23 +86,28 @@ emission_sent w s call answer room answered =
           (slice_get-map (λ (x : PutMessage). x.item) (put_messages s) n ∙ rw is refl, omega arith);
     }) call answer answered
 
+-- what a call hears is among these emissions, unless it wants for memory
+abbrev pub IsHeardOf : List Outgoing → EndCall → EndAnswer → Type 0
+IsHeardOf sent call answer = ¬ IsNoMemory call answer → WasEmitted sent call
+
 -- a number that is acknowledged was taken at the other end
 acked_taken : (w : ℕ) (s : List Entry) (call : EndCall) (answer : EndAnswer)
     (sent : List Outgoing) (taken : List ℕ)
     → All (IsAckOf taken) sent
-    → WasEmitted sent call
+    → IsHeardOf sent call answer
     → IsAnswered w s call answer
     → IfSome (number_acked answer) (λ n. has_number taken n ≡ true)
 acked_taken w s call answer sent taken acks emitted answered =
     by_cases w s
-    (λ call answer. WasEmitted sent call → IfSome (number_acked answer) (λ n. has_number taken n ≡ true))
+    (λ call answer. IsHeardOf sent call answer → IfSome (number_acked answer) (λ n. has_number taken n ≡ true))
     (record {
       quiet = λ call answer quiet emitted. rw quiet.acked tt;
       seq = λ item id now apart emitted. tt;
       late = λ now n id item there emitted. tt;
       released = λ now n id item absent near emitted. tt;
       acked = λ now n out before emitted.
-          All-contains (IsAckOf taken) sent (Outgoing.Ack n emitted.0 emitted.1) acks emitted.2;
+          let was : WasEmitted sent (EndCall.Heard now (Incoming.Ack n)) = emitted (λ none. cc) in
+          All-contains (IsAckOf taken) sent (Outgoing.Ack n was.0 was.1) acks was.2;
       emit_ack = λ now p owed is emitted. tt;
       emit_stream = λ now n m below eligible is emitted. tt;
     }) call answer answered emitted
@@ -120,7 +126,7 @@ sender_after : (w : ℕ) (s r : List Entry) (e : Entry)
     → Agree w s r
     → IsConsistent w s
     → IsAnswered w s e.call e.answer
-    → WasEmitted (emissions r) e.call
+    → IsHeardOf (emissions r) e.call e.answer
     → Agree w (s ++ e ∷ []) r
 sender_after w s r e agree sound answered emitted =
     let more = map (λ m. m.item) (cons_option (message_put e.answer e.call) []) in
@@ -164,19 +170,21 @@ sender_after w s r e agree sound answered emitted =
 taken_put : (w : ℕ) (r : List Entry) (call : EndCall) (answer : EndAnswer)
     (sent : List Outgoing) (items : List Item) (bound : ℕ)
     → All (IsSentFrom items bound) sent
-    → WasEmitted sent call
+    → IsHeardOf sent call answer
     → IsAnswered w r call answer
     → IfSome (item_taken answer call) (IsPutAs items)
 taken_put w r call answer sent items bound all emitted answered =
     by_cases w r
-    (λ call answer. WasEmitted sent call → IfSome (item_taken answer call) (IsPutAs items))
+    (λ call answer. IsHeardOf sent call answer → IfSome (item_taken answer call) (IsPutAs items))
     (record {
       quiet = λ call answer quiet emitted. rw quiet.taken tt;
       seq = λ item id now apart emitted. tt;
       late = λ now n id item there emitted. tt;
       released = λ now n id item absent near emitted.
-          let out = Outgoing.Stream (record { seq = n; id = id; date = emitted.0; item = item }) in
-          (All-contains (IsSentFrom items bound) sent out all emitted.1).0;
+          let was : WasEmitted sent (EndCall.Heard now (Incoming.Stream n id item))
+          = emitted (λ none. cc) in
+          let out = Outgoing.Stream (record { seq = n; id = id; date = was.0; item = item }) in
+          (All-contains (IsSentFrom items bound) sent out all was.1).0;
       acked = λ now n out before emitted. tt;
       emit_ack = λ now p owed is emitted. tt;
       emit_stream = λ now n m below eligible is emitted. tt;
@@ -249,7 +257,7 @@ ack_more taken more (Outgoing.Ack n id date) is = has_number-more taken more n i
 receiver_after : (w : ℕ) (s r : List Entry) (e : Entry)
     → Agree w s r
     → IsAnswered w r e.call e.answer
-    → WasEmitted (emissions s) e.call
+    → IsHeardOf (emissions s) e.call e.answer
     → Agree w s (r ++ e ∷ [])
 receiver_after w s r e agree answered emitted =
     let new : List (ℕ × Item) = cons_option (item_taken e.answer e.call) [] in
@@ -306,17 +314,19 @@ agree_after w world x before legal honest side =
     (λ (here : x.side ≡ side).
     let answered : IsAnswered w s x.entry.call x.entry.answer
     = subst (λ z. IsAnswered w (history_of z world) x.entry.call x.entry.answer) here legal_parts.1 in
-    let emitted : WasEmitted (emissions r) x.entry.call
-    = subst (λ z. WasEmitted (emissions (history_of (other z) world)) x.entry.call) here honest_parts.1 in
+    let emitted : IsHeardOf (emissions r) x.entry.call x.entry.answer
+    = subst
+    (λ z. IsHeardOf (emissions (history_of (other z) world)) x.entry.call x.entry.answer)
+    here honest_parts.1 in
     rw
     (history_of-here side world x here, history_of-away side world x here)
     (sender_after w s r x.entry (before side) (sound w s (legal_parts.0 side)) answered emitted))
     (λ (there : x.side ≡ other side).
     let answered : IsAnswered w r x.entry.call x.entry.answer
     = subst (λ z. IsAnswered w (history_of z world) x.entry.call x.entry.answer) there legal_parts.1 in
-    let emitted : WasEmitted (emissions s) x.entry.call
+    let emitted : IsHeardOf (emissions s) x.entry.call x.entry.answer
     = subst
-    (λ z. WasEmitted (emissions (history_of z world)) x.entry.call)
+    (λ z. IsHeardOf (emissions (history_of z world)) x.entry.call x.entry.answer)
     (ap other there ∙ other-other side) honest_parts.1 in
     rw
     (history_of-here (other side) world x there, history_of-there side world x there)

@@ -18,7 +18,7 @@ use Rattle.channel_core.specs.Laws.{AcknowledgedHasArrived, EachNumberIsTakenOnc
 use Rattle.channel_core.specs.Legal.{IsAnswered, answer_to_heard, answer_to_incoming}
 use Rattle.channel_core.specs.Numbers.{has_number, numbers_of}
 use Rattle.channel_core.specs.World.{Event, IsHonest, IsLegalWorld, WasEmitted, history_of}
-use Rattle.channel_core.proofs.AgreementLemmas.{Agree, IsPutAs, IsSentFrom, agree}
+use Rattle.channel_core.proofs.AgreementLemmas.{Agree, IsHeardOf, IsPutAs, IsSentFrom, agree}
 use Rattle.channel_core.proofs.HistoryLemmas.{by_pushes}
 use Rattle.channel_core.proofs.ItemLemmas.{item_with-contains, item_with-meets, item_with-there, filter_map-reads}
 use Rattle.channel_core.proofs.NumberLemmas.{least_absent-is, least_absent-le}
@@ -184,7 +184,7 @@ acknowledged_has_arrived w world side n legal honest acked =
 -- the answer to what was emitted is not that it is beyond the window
 pub answer_not_beyond : (w : ℕ) (s r : List Entry) (call : EndCall) (answer : EndAnswer)
     → Agree w s r
-    → WasEmitted (emissions s) call
+    → IsHeardOf (emissions s) call answer
     → IsAnswered w r call answer
     → answer ≢ EndAnswer.Heard Heard.Beyond
 answer_not_beyond w s r (EndCall.Put item id now) answer agree emitted answered beyond =
@@ -195,7 +195,7 @@ answer_not_beyond w s r (EndCall.Heard now incoming) answer agree emitted answer
     let same : EndAnswer.Heard (answer_to_heard w r incoming) ≡ EndAnswer.Heard Heard.Beyond
     = sym is ∙ beyond in
     let heard : answer_to_heard w r incoming ≡ Heard.Beyond = cc in
-    not_beyond w now s r incoming agree emitted heard)
+    not_beyond w now s r incoming agree (emitted (λ none. cc)) heard)
     (λ is. cc)
     answered
 answer_not_beyond w s r (EndCall.Tick now) answer agree emitted answered beyond =

@@ -46,13 +46,14 @@ pair_after w side world x y out is_pulled is_heard legal honest unclosed ready =
     = history_of-here (other side) one y is_heard.side
     ∙ ap (λ (h : List Entry). h ++ y.entry ∷ []) r1 in
     let left = pulled s side x out is_pulled in
-    let honest_x : IsHonest one = IsHonest-push world x honest (rw is_pulled.call tt) in
+    let honest_x : IsHonest one = IsHonest-push world x honest (λ _. rw is_pulled.call tt) in
     let heard_call = EndCall.Heard is_heard.now (incoming_of out) in
     let emitted : WasEmitted (emissions (history_of side one)) heard_call
     = rw (s1, left.emitted)
     (WasEmitted-of (emissions s ++ out ∷ []) is_heard.now out (Contains-push (emissions s) out)) in
     let honest_y : IsHonest (one ++ y ∷ [])
-    = IsHonest-push one y honest_x (rw (is_heard.side, other-other side, is_heard.call) emitted) in
+    = IsHonest-push one y honest_x
+    (λ _. rw (is_heard.side, other-other side, is_heard.call) emitted) in
     let ends = agree w one legal_y.0 honest_x side in
     let answered : IsAnswered w (history_of (other side) one) heard_call y.entry.answer
     = subst
@@ -100,7 +101,7 @@ pass_after w side (x ∷ []) world pass legal honest unclosed ready =
     let both : IsPassed s r (s ++ x.entry ∷ []) r = idle_passed s r side x pass (ready side) back in
     let all = idle_taken w pass.now s r ends (ready side) unclosed_s answered in
     record {
-      honest = IsHonest-push world x honest (rw pass.call tt);
+      honest = IsHonest-push world x honest (λ _. rw pass.call tt);
       on = goes_on side world next (rw (s1, r1) both);
       all = rw (s1, r1) (λ n below. all n (subst (λ (ms : List PutMessage). n < length ms) both.put_s below));
     }
@@ -155,7 +156,7 @@ openings_honest : (world : List Event) (plugin agent : ℕ)
     → IsHonest (openings world plugin agent)
 openings_honest world plugin agent honest =
     IsHonest-push (world ++ opening Plugin plugin ∷ []) (opening Agent agent)
-    (IsHonest-push world (opening Plugin plugin) honest tt) tt
+    (IsHonest-push world (opening Plugin plugin) honest (λ _. tt)) (λ _. tt)
 
 -- an exchange in its parts
 pub openings_parts : (world to_agent to_plugin : List Event) (plugin agent : ℕ)

@@ -14,7 +14,7 @@ use Rattle.channel_core.specs.Exchange.{incoming_of}
 use Rattle.channel_core.specs.History.{emissions}
 use Rattle.channel_core.specs.Laws.{WorldsGoOn}
 use Rattle.channel_core.specs.Legal.{IsAnswered, IsLegal, answer_to}
-use Rattle.channel_core.specs.World.{Event, IsHonest, IsLegalWorld, WasEmitted, entry_at, history_of}
+use Rattle.channel_core.specs.World.{Event, HearsEmitted, IsHonest, IsLegalWorld, WasEmitted, entry_at, history_of}
 use Rattle.channel_core.proofs.HistoryLemmas.{with_earlier-push}
 use Rattle.channel_core.proofs.LegalLemmas.{All-pushed, IsLegal-nil, IsLegal-push, IsLegal-pushed}
 
@@ -92,12 +92,12 @@ history_of-away side world x here =
 
 -- what an event hears was emitted before it
 abbrev Fits : List Event × Event → Type 0
-Fits p = WasEmitted (emissions (history_of (other p.1.side) p.0)) p.1.entry.call
+Fits p = HearsEmitted p.0 p.1
 
 -- an honest world is an honest one and an event that hears what was emitted before
 pub IsHonest-pushed : (world : List Event) (x : Event)
     → IsHonest (world ++ x ∷ [])
-    → IsHonest world × WasEmitted (emissions (history_of (other x.side) world)) x.entry.call
+    → IsHonest world × HearsEmitted world x
 unfolding IsHonest
 IsHonest-pushed world x honest =
     All-pushed Fits (with_earlier world) (world, x) (rw with_earlier-push at honest)
@@ -105,7 +105,7 @@ IsHonest-pushed world x honest =
 -- and the other way round
 pub IsHonest-push : (world : List Event) (x : Event)
     → IsHonest world
-    → WasEmitted (emissions (history_of (other x.side) world)) x.entry.call
+    → HearsEmitted world x
     → IsHonest (world ++ x ∷ [])
 unfolding IsHonest
 IsHonest-push world x honest emitted =
@@ -194,7 +194,7 @@ IsRight-push w world side call right emitted =
     let x = event_of w world side call in
     record {
       legal = IsLegalWorld-push w world x right.legal (inl refl);
-      honest = IsHonest-push world x right.honest emitted;
+      honest = IsHonest-push world x right.honest (λ _. emitted);
     }
 
 -- what the other end hears of an emission was emitted

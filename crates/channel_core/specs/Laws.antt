@@ -16,8 +16,8 @@ use Rattle.channel_core.specs.Legal.{IsAnswered, IsLegal}
 use Rattle.channel_core.specs.Numbers.{has_number}
 use Rattle.channel_core.specs.World.{Event, HearsEmitted, IsHonest, IsLegalWorld, history_of}
 
--- a world of no events is legal and honest, and it stays so with each call that gets its
--- answer, or wants for memory, and hears nothing of the other end but what was emitted there
+-- a world of no events is legal and honest, and it stays so with each call that gets its answer and
+-- hears nothing of the other end but what was emitted there, and with each that wants for memory
 pub record WorldsGoOn : Type 0 where
   pub start : (w : ℕ) → IsLegalWorld w [] × IsHonest []
   pub next : (w : ℕ) (world : List Event) (x : Event)

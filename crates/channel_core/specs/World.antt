@@ -9,7 +9,7 @@ use Rattle.channel_core.specs.declared.hearing.Incoming.TheVariants as Incoming
 use Rattle.channel_core.specs.declared.pulling.Outgoing.{Outgoing}
 use Rattle.channel_core.specs.Call.{Entry, with_earlier}
 use Rattle.channel_core.specs.History.{emissions}
-use Rattle.channel_core.specs.Legal.{IsLegal}
+use Rattle.channel_core.specs.Legal.{IsLegal, IsNoMemory}
 
 -- an entry and the end at which it happened
 pub record Event : Type 0 where
@@ -41,9 +41,12 @@ WasEmitted emissions (EndCall.Heard now (Incoming.Ack n)) =
     (id : List ℕ) × (date : ℕ) × Contains emissions (Outgoing.Ack n id date)
 WasEmitted emissions call = Unit {0}
 
--- what this event hears was emitted at the other end by one of the earlier events
+-- What this event hears was emitted at the other end by one of the earlier events. A call that wants
+-- for memory hears nothing.
 abbrev pub HearsEmitted : List Event → Event → Type 0
-HearsEmitted earlier x = WasEmitted (emissions (history_of (other x.side) earlier)) x.entry.call
+HearsEmitted earlier x =
+    ¬ IsNoMemory x.entry.call x.entry.answer
+    → WasEmitted (emissions (history_of (other x.side) earlier)) x.entry.call
 
 -- an end hears nothing of the other but what was emitted there before, once, often or never
 unfoldable pub IsHonest : List Event → Type 0

@@ -2,13 +2,14 @@
 //!
 //! A world lists what happened at both ends, in order. It is legal where each call got the answer
 //! that `End` gives, and honest where each message that an end heard had been emitted by the other.
-//! It may lose, repeat and reorder messages, drop connections and pause the ends as it likes.
+//! A call that wanted for memory heard nothing, so it may stand anywhere. A world may lose, repeat
+//! and reorder messages, drop connections and pause the ends as it likes.
 //! A law is the contract of a function with an empty body, by the definitions of `specs/`.
 
 ghost use Rattle.channel_core.specs.Laws.{AcknowledgedHasArrived, EachNumberIsTakenOnce, EmissionsCanBeEncoded, ExchangeIsPossible, ExchangeIsShort, ExchangeReleasesAll, NothingIsBeyond, ReleasedIsInOrder, ReleasedIsPrefix, WindowBoundsMessages, WorldsGoOn};
 
-/// A world goes on with any call that gets its answer, or wants for memory, and hears only what was
-/// emitted.
+/// A world goes on with any call that gets its answer and hears only what was emitted, and with any
+/// that wants for memory, whatever it was to hear.
 pub fn worlds_go_on()
     ensures { WorldsGoOn }
 {}
