@@ -26,17 +26,22 @@ Keeps-after old text mid new e kept =
 
 -- ---- a line in parts
 
-join_with_byte-spaced : (word : List ℕ) (words : List (List ℕ)) → join_with_byte 32 (word ∷ words) ≡ word ++ spaced words
+join_with_byte-spaced : (word : List ℕ) (words : List (List ℕ))
+    → join_with_byte 32 (word ∷ words) ≡ word ++ spaced words
 join_with_byte-spaced word [] = sym (append-nil word)
 join_with_byte-spaced word (next ∷ words) =
     ap (λ (rest : List ℕ). word ++ 32 ∷ rest) (join_with_byte-spaced next words)
 
 pub report_line-parts : (number : ℕ) (verb : Verb) (side : Option Side) (outcome : Outcome)
     → report_line number verb side outcome
-    ≡ decimal number ++ ((32 ∷ verb_text verb) ++ (spaced (side_words side) ++ (spaced (outcome_words outcome) ++ 10 ∷ [])))
+    ≡ decimal number ++ ((32 ∷ verb_text verb) ++
+    (spaced (side_words side) ++ (spaced (outcome_words outcome) ++ 10 ∷ [])))
 report_line-parts number verb side outcome =
-    let joined = join_with_byte-spaced (decimal number) (verb_text verb ∷ (side_words side ++ outcome_words outcome)) in
-    let parts : spaced (side_words side ++ outcome_words outcome) ≡ spaced (side_words side) ++ spaced (outcome_words outcome) =
+    let joined = join_with_byte-spaced (decimal number)
+    (verb_text verb ∷ (side_words side ++ outcome_words outcome)) in
+    let parts : spaced (side_words side ++ outcome_words outcome) ≡ spaced (side_words side)
+    ++ spaced (outcome_words outcome) =
     flat_map-append (λ (word : List ℕ). 32 ∷ word) (side_words side) (outcome_words outcome) in
-    ap (λ (xs : List ℕ). xs ++ 10 ∷ []) (joined ∙ ap (λ (xs : List ℕ). decimal number ++ 32 ∷ (verb_text verb ++ xs)) parts)
+    ap (λ (xs : List ℕ). xs ++ 10 ∷ [])
+    (joined ∙ ap (λ (xs : List ℕ). decimal number ++ 32 ∷ (verb_text verb ++ xs)) parts)
     ∙ simp append_assoc

@@ -3,6 +3,8 @@ pub mod Digits
 pub mod HexDigits
 pub mod Payloads
 pub mod WordLists
+pub mod Verbs
 pub mod Spelling
+pub mod GrammarLemmas
 pub mod OneSpelling
 pub mod Appends

@@ -6,16 +6,17 @@ use Rattle.std.specs.Str.Parse.{IsNumeral}
 use Rattle.hex.specs.Hex.{decode_of}
 use Rattle.chan_values.specs.declared.side.Side.{Side}
 use Rattle.chan_values.specs.declared.side.Side.TheVariants.{Plugin, Agent}
+use Rattle.lab_script.specs.declared.command.Action.{Action}
 use Rattle.lab_script.specs.declared.command.Command.{Command}
-use Rattle.lab_script.specs.declared.command.Command.TheVariants as commands
-use Rattle.lab_script.specs.declared.which.Which.{Which}
-use Rattle.lab_script.specs.declared.which.Which.TheVariants.{Number, Last}
-use Rattle.lab_script.specs.Verb.{verb_text}
+use Rattle.lab_script.specs.declared.verb.Verb.TheVariants as verbs
+use Rattle.lab_script.specs.declared.word.Which.{Which}
+use Rattle.lab_script.specs.declared.word.Which.TheVariants.{Number, Last}
+use Rattle.lab_script.specs.Command.{IsAction, IsCommand, IsPayload, Says, operands_of, verb_of, words_of}
 use Rattle.lab_script.specs.Words.{side_text, hex_text, which_text, IsWhich}
-use Rattle.lab_script.specs.Command.{verb_of, operands_of, IsPayload, IsCommand, Says}
-use Rattle.lab_script.proofs.WordLists.{words}
+use Rattle.lab_script.proofs.GrammarLemmas.{not_of_one_end}
 use Rattle.lab_script.proofs.Payloads.{decode_of-hex_text, length-hex_text}
-use Rattle.lab_script.proofs.Spelling.{words-spelling, same_verb}
+use Rattle.lab_script.proofs.Spelling.{words-from_Says}
+use Rattle.lab_script.proofs.Verbs.{of_one_end, same_verb}
 
 -- ---- each word stands for one value
 
@@ -46,44 +47,52 @@ same_payload (x ∷ xs) (y ∷ ys) fits_a fits_b e =
 
 -- ---- and so do all words of a command
 
-same_command : (a b : Command) → IsCommand a → IsCommand b → verb_of a ≡ verb_of b → operands_of a ≡ operands_of b → a ≡ b
-same_command (commands.Put side item) (commands.Put side' item') fits fits' verb same =
+same_action : (a b : Action)
+    → IsAction a → IsAction b → verb_of a ≡ verb_of b → operands_of a ≡ operands_of b → a ≡ b
+same_action (Action.Put item) (Action.Put item') fits fits' verb same =
+    let types : item.ptype ≡ item'.ptype =
+    decimal_injective item.ptype item'.ptype (omega (arith, fits.0)) (omega (arith, fits'.0))
+    (cc same) in
+    let payloads : item.payload ≡ item'.payload =
+    same_payload item.payload item'.payload fits.1 fits'.1 (cc same) in
+    ap (λ (n : ℕ). Action.Put (record { ptype = n; payload = item.payload })) types
+    ∙ ap (λ (p : List ℕ). Action.Put (record { ptype = item'.ptype; payload = p })) payloads
+same_action (Action.Hear which) (Action.Hear which') fits fits' verb same =
+    ap (λ (w : Which). Action.Hear w) (same_which which which' fits fits' (cc same))
+same_action (Action.Hurt which place) (Action.Hurt which' place') fits fits' verb same =
+    ap (λ (w : Which). Action.Hurt w place) (same_which which which' fits.0 fits'.0 (cc same))
+    ∙ ap (λ (n : ℕ). Action.Hurt which' n) (decimal_injective place place' fits.1 fits'.1 (cc same))
+same_action Action.Pull Action.Pull fits fits' verb same = refl
+same_action Action.Tick Action.Tick fits fits' verb same = refl
+same_action Action.Close Action.Close fits fits' verb same = refl
+same_action Action.Lost Action.Lost fits fits' verb same = refl
+same_action Action.Open Action.Open fits fits' verb same = refl
+same_action Action.Pause Action.Pause fits fits' verb same = refl
+same_action Action.Start Action.Start fits fits' verb same = refl
+same_action Action.End Action.End fits fits' verb same = refl
+same_action _ _ fits fits' verb same = absurd (cc verb)
+
+same_command : (a b : Command) → IsCommand a → IsCommand b → words_of a ≡ words_of b → a ≡ b
+same_command (Command.At moment) (Command.At moment') fits fits' same =
+    ap (λ (n : ℕ). Command.At n) (decimal_injective moment moment' fits fits' (cc same))
+same_command (Command.At moment) Command.Settle fits fits' same = absurd (cc same)
+same_command (Command.At moment) (Command.On side action) fits fits' same =
+    absurd (not_of_one_end action verbs.At (same_verb (verb_of action) verbs.At (cc same)) refl)
+same_command Command.Settle (Command.At moment) fits fits' same = absurd (cc same)
+same_command Command.Settle Command.Settle fits fits' same = refl
+same_command Command.Settle (Command.On side action) fits fits' same = absurd (cc same)
+same_command (Command.On side action) (Command.At moment) fits fits' same =
+    absurd (not_of_one_end action verbs.At (same_verb (verb_of action) verbs.At (cc same)) refl)
+same_command (Command.On side action) Command.Settle fits fits' same = absurd (cc same)
+same_command (Command.On side action) (Command.On side' action') fits fits' same =
     let sides : side ≡ side' = same_side side side' (cc same) in
-    let types : item.ptype ≡ item'.ptype = decimal_injective item.ptype item'.ptype (omega (arith, fits.0)) (omega (arith, fits'.0)) (cc same) in
-    let payloads : item.payload ≡ item'.payload = same_payload item.payload item'.payload fits.1 fits'.1 (cc same) in
-    ap (λ (s : Side). commands.Put s item) sides
-    ∙ ap (λ (n : ℕ). commands.Put side' (record { ptype = n; payload = item.payload })) types
-    ∙ ap (λ (p : List ℕ). commands.Put side' (record { ptype = item'.ptype; payload = p })) payloads
-same_command (commands.At moment) (commands.At moment') fits fits' verb same =
-    ap (λ (n : ℕ). commands.At n) (decimal_injective moment moment' fits fits' (cc same))
-same_command commands.Settle commands.Settle fits fits' verb same = refl
-same_command (commands.Pull side) (commands.Pull side') fits fits' verb same =
-    ap (λ (s : Side). commands.Pull s) (same_side side side' (cc same))
-same_command (commands.Tick side) (commands.Tick side') fits fits' verb same =
-    ap (λ (s : Side). commands.Tick s) (same_side side side' (cc same))
-same_command (commands.Close side) (commands.Close side') fits fits' verb same =
-    ap (λ (s : Side). commands.Close s) (same_side side side' (cc same))
-same_command (commands.Lost side) (commands.Lost side') fits fits' verb same =
-    ap (λ (s : Side). commands.Lost s) (same_side side side' (cc same))
-same_command (commands.Open side) (commands.Open side') fits fits' verb same =
-    ap (λ (s : Side). commands.Open s) (same_side side side' (cc same))
-same_command (commands.Pause side) (commands.Pause side') fits fits' verb same =
-    ap (λ (s : Side). commands.Pause s) (same_side side side' (cc same))
-same_command (commands.Start side) (commands.Start side') fits fits' verb same =
-    ap (λ (s : Side). commands.Start s) (same_side side side' (cc same))
-same_command (commands.End side) (commands.End side') fits fits' verb same =
-    ap (λ (s : Side). commands.End s) (same_side side side' (cc same))
-same_command (commands.Hear side which) (commands.Hear side' which') fits fits' verb same =
-    ap (λ (s : Side). commands.Hear s which) (same_side side side' (cc same))
-    ∙ ap (λ (w : Which). commands.Hear side' w) (same_which which which' fits fits' (cc same))
-same_command (commands.Hurt side which place) (commands.Hurt side' which' place') fits fits' verb same =
-    ap (λ (s : Side). commands.Hurt s which place) (same_side side side' (cc same))
-    ∙ ap (λ (w : Which). commands.Hurt side' w place) (same_which which which' fits.0 fits'.0 (cc same))
-    ∙ ap (λ (n : ℕ). commands.Hurt side' which' n) (decimal_injective place place' fits.1 fits'.1 (cc same))
-same_command _ _ fits fits' verb same = absurd (cc verb)
+    let verb : verb_of action ≡ verb_of action' =
+    same_verb (verb_of action) (verb_of action') (cc same) in
+    let actions : action ≡ action' = same_action action action' fits fits' verb (cc same) in
+    ap (λ (s : Side). Command.On s action) sides
+    ∙ ap (λ (a : Action). Command.On side' a) actions
 
 pub says_one : (line : List ℕ) (a b : Command) → Says line a → Says line b → a ≡ b
 says_one line a b said_a said_b =
-    let same : verb_text (verb_of a) ∷ operands_of a ≡ verb_text (verb_of b) ∷ operands_of b =
-    sym (words-spelling a said_a.in_range) ∙ ap words (said_a.spelled ∙ sym said_b.spelled) ∙ words-spelling b said_b.in_range in
-    same_command a b said_a.in_range said_b.in_range (same_verb (verb_of a) (verb_of b) (cc same)) (cc same)
+    same_command a b said_a.in_range said_b.in_range
+    (sym (words-from_Says line a said_a) ∙ words-from_Says line b said_b)

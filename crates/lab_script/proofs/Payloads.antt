@@ -28,13 +28,17 @@ IsBytes-from_all bytes each i =
     ]
 
 -- what an encoding decodes to
-pub decode_of-hex_text : (b : ℕ) (bytes : List ℕ) → IsPayload (b ∷ bytes) → decode_of (hex_text (b ∷ bytes)) ≡ Ok (b ∷ bytes)
-decode_of-hex_text b bytes fits = decode_of-encode_lower (b ∷ bytes) (IsBytes-from_all (b ∷ bytes) fits.0)
+pub decode_of-hex_text : (b : ℕ) (bytes : List ℕ) → IsPayload (b ∷ bytes)
+    → decode_of (hex_text (b ∷ bytes)) ≡ Ok (b ∷ bytes)
+decode_of-hex_text b bytes fits =
+    decode_of-encode_lower (b ∷ bytes) (IsBytes-from_all (b ∷ bytes) fits.0)
 
-pub length-hex_text : (b : ℕ) (bytes : List ℕ) → length (hex_text (b ∷ bytes)) ≡ 2 * length (b ∷ bytes)
+pub length-hex_text : (b : ℕ) (bytes : List ℕ)
+    → length (hex_text (b ∷ bytes)) ≡ 2 * length (b ∷ bytes)
 length-hex_text b bytes = length-encode_with lower_digits (b ∷ bytes)
 
-pub IsEncoding-from_text : (word payload : List ℕ) → IsPayload payload → hex_text payload ≡ word → word ≢ codes "-"
+pub IsEncoding-from_text : (word payload : List ℕ) → IsPayload payload → hex_text payload ≡ word
+    → word ≢ codes "-"
     → IsEncoding word payload
 IsEncoding-from_text word [] fits e other = absurd (other (sym e))
 IsEncoding-from_text word (b ∷ bytes) fits e other =
@@ -47,7 +51,8 @@ IsEncoding-from_text word (b ∷ bytes) fits e other =
     })
 
 -- a test that did not fail
-guard_ok : {A : Type 0} (b : Bool) (d : FromHexError) (x : Result A FromHexError) (y : A) → cond b (Err d) x ≡ Ok y → x ≡ Ok y
+guard_ok : {A : Type 0} (b : Bool) (d : FromHexError) (x : Result A FromHexError) (y : A)
+    → cond b (Err d) x ≡ Ok y → x ≡ Ok y
 guard_ok true d x y e = absurd cc
 guard_ok false d x y e = e
 
@@ -55,10 +60,12 @@ hex_text-some : (bytes : List ℕ) → 0 < length bytes → hex_text bytes ≡ e
 hex_text-some [] some = absurd (omega arith)
 hex_text-some (b ∷ bytes) some = refl
 
-pub text_from_decoded : (word payload : List ℕ) → 0 < length word → length word ≤ 131072 → list_any is_ascii_uppercase word ≡ false
+pub text_from_decoded : (word payload : List ℕ) → 0 < length word → length word ≤ 131072
+    → list_any is_ascii_uppercase word ≡ false
     → decode_of word ≡ Ok payload → IsPayload payload × (hex_text payload ≡ word)
 text_from_decoded word payload some short lower e =
     let pairs = guard_ok (eqb (length word % 2) 1) OddLength (decode_pairs 0 word) payload e in
     let read = encode_lower-decode_pairs 0 word payload lower pairs in
-    let len : length word ≡ 2 * length payload = ap length (sym read.0) ∙ length-encode_with lower_digits payload in
+    let len : length word ≡ 2 * length payload = ap length (sym read.0)
+    ∙ length-encode_with lower_digits payload in
     ((read.1, omega (arith, len)), hex_text-some payload (omega (arith, len)) ∙ read.0)

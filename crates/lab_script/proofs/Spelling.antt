@@ -1,162 +1,129 @@
 -- A command and the words of its text.
-use Rattle.std.proofs.Common.{◌≡◌, ℕ, ◌<◌, ◌^◌, cond, List, [], ◌∷◌, ◌++◌, refl, sym, ap, ◌∙◌, arith, decimal}
+use Rattle.std.proofs.Common.{◌≡◌, ◌≢◌, ℕ, ◌+◌, ◌<◌, ◌^◌, Bool, true, false, List, [], ◌∷◌, ◌++◌, length, refl, sym, ap, ◌∙◌, arith, decimal}
 use Rattle.std.specs.Prelude.{codes}
-use Rattle.std.specs.Str.{bytes_eq}
 use Rattle.std.specs.List.{AllByRecursion}
+use Rattle.std.proofs.lemmas.List.{length-append, nil_from_length}
 use Rattle.chan_values.specs.declared.side.Side.{Side}
 use Rattle.chan_values.specs.declared.side.Side.TheVariants.{Plugin, Agent}
-use Rattle.chan_values.specs.declared.item.Item.{Item}
+use Rattle.lab_script.specs.declared.command.Action.{Action}
 use Rattle.lab_script.specs.declared.command.Command.{Command}
-use Rattle.lab_script.specs.declared.command.Command.TheVariants as commands
 use Rattle.lab_script.specs.declared.verb.Verb.{Verb}
 use Rattle.lab_script.specs.declared.verb.Verb.TheVariants as verbs
-use Rattle.lab_script.specs.declared.which.Which.{Which}
-use Rattle.lab_script.specs.declared.which.Which.TheVariants.{Number, Last}
+use Rattle.lab_script.specs.declared.word.Which.{Which}
+use Rattle.lab_script.specs.declared.word.Which.TheVariants.{Number, Last}
+use Rattle.lab_script.specs.Command.{IsAction, IsCommand, IsScriptLine, Says, operands_of, spelling, verb_of, words_of}
+use Rattle.lab_script.specs.Lines.{words_in}
 use Rattle.lab_script.specs.Verb.{verb_text}
 use Rattle.lab_script.specs.Words.{side_text, hex_text, which_text, IsWhich}
-use Rattle.lab_script.specs.Command.{verb_of, operands_of, spelling, IsPayload, IsCommand, Says, IsScriptLine}
-use Rattle.lab_script.proofs.WordLists.{words, IsWord, IsWord-from_test, words-join_with_byte, words-first, same_from_words, IsWord-decimal, IsWord-encode_lower}
+use Rattle.lab_script.proofs.Verbs.{IsWord-verb_text, same_verb}
+use Rattle.lab_script.proofs.WordLists.{IsWord, IsWord-from_test, words-join_with_byte, same_from_words, IsWord-decimal, IsWord-encode_lower}
 
 -- ---- the words of a command
-
-IsWord-verb_text : (verb : Verb) → IsWord (verb_text verb)
-IsWord-verb_text verbs.At = IsWord-from_test (codes "at") refl
-IsWord-verb_text verbs.Put = IsWord-from_test (codes "put") refl
-IsWord-verb_text verbs.Pull = IsWord-from_test (codes "pull") refl
-IsWord-verb_text verbs.Tick = IsWord-from_test (codes "tick") refl
-IsWord-verb_text verbs.Close = IsWord-from_test (codes "close") refl
-IsWord-verb_text verbs.Hear = IsWord-from_test (codes "hear") refl
-IsWord-verb_text verbs.Hurt = IsWord-from_test (codes "hurt") refl
-IsWord-verb_text verbs.Lost = IsWord-from_test (codes "lost") refl
-IsWord-verb_text verbs.Open = IsWord-from_test (codes "open") refl
-IsWord-verb_text verbs.Pause = IsWord-from_test (codes "pause") refl
-IsWord-verb_text verbs.Start = IsWord-from_test (codes "start") refl
-IsWord-verb_text verbs.End = IsWord-from_test (codes "end") refl
-IsWord-verb_text verbs.Settle = IsWord-from_test (codes "settle") refl
 
 IsWord-side_text : (side : Side) → IsWord (side_text side)
 IsWord-side_text Plugin = IsWord-from_test (codes "P") refl
 IsWord-side_text Agent = IsWord-from_test (codes "A") refl
 
-pub IsWord-which_text : (which : Which) → IsWhich which → IsWord (which_text which)
+IsWord-which_text : (which : Which) → IsWhich which → IsWord (which_text which)
 IsWord-which_text (Number n) fits = IsWord-decimal n fits
 IsWord-which_text Last fits = IsWord-from_test (codes "last") refl
 
-pub IsWord-hex_text : (bytes : List ℕ) → IsWord (hex_text bytes)
+IsWord-hex_text : (bytes : List ℕ) → IsWord (hex_text bytes)
 IsWord-hex_text [] = IsWord-from_test (codes "-") refl
 IsWord-hex_text (b ∷ bytes) = IsWord-encode_lower (b ∷ bytes)
 
-AreWords-operands_of : (command : Command) → IsCommand command → AllByRecursion IsWord (operands_of command)
-AreWords-operands_of (commands.At moment) fits = (IsWord-decimal moment fits, tt)
-AreWords-operands_of (commands.Put side item) fits =
-    (IsWord-side_text side, (IsWord-decimal item.ptype (omega (arith, fits.0)), (IsWord-hex_text item.payload, tt)))
-AreWords-operands_of (commands.Pull side) fits = (IsWord-side_text side, tt)
-AreWords-operands_of (commands.Tick side) fits = (IsWord-side_text side, tt)
-AreWords-operands_of (commands.Close side) fits = (IsWord-side_text side, tt)
-AreWords-operands_of (commands.Hear side which) fits = (IsWord-side_text side, (IsWord-which_text which fits, tt))
-AreWords-operands_of (commands.Hurt side which place) fits =
-    (IsWord-side_text side, (IsWord-which_text which fits.0, (IsWord-decimal place fits.1, tt)))
-AreWords-operands_of (commands.Lost side) fits = (IsWord-side_text side, tt)
-AreWords-operands_of (commands.Open side) fits = (IsWord-side_text side, tt)
-AreWords-operands_of (commands.Pause side) fits = (IsWord-side_text side, tt)
-AreWords-operands_of (commands.Start side) fits = (IsWord-side_text side, tt)
-AreWords-operands_of (commands.End side) fits = (IsWord-side_text side, tt)
-AreWords-operands_of commands.Settle fits = tt
+AreWords-operands_of : (action : Action) → IsAction action
+    → AllByRecursion IsWord (operands_of action)
+AreWords-operands_of (Action.Put item) fits =
+    (IsWord-decimal item.ptype (omega (arith, fits.0)), (IsWord-hex_text item.payload, tt))
+AreWords-operands_of (Action.Hear which) fits = (IsWord-which_text which fits, tt)
+AreWords-operands_of (Action.Hurt which place) fits =
+    (IsWord-which_text which fits.0, (IsWord-decimal place fits.1, tt))
+AreWords-operands_of _ fits = tt
 
-pub words-spelling : (command : Command) → IsCommand command → words (spelling command) ≡ verb_text (verb_of command) ∷ operands_of command
-words-spelling command fits =
-    words-join_with_byte (verb_text (verb_of command)) (operands_of command) (IsWord-verb_text (verb_of command)) (AreWords-operands_of command fits)
+-- the words of a command's text are those of the command
+words-spelling : (command : Command) → IsCommand command
+    → words_in (spelling command) ≡ words_of command
+words-spelling (Command.At moment) fits =
+    words-join_with_byte (verb_text verbs.At) (decimal moment ∷ []) (IsWord-verb_text verbs.At)
+    (IsWord-decimal moment fits, tt)
+words-spelling Command.Settle fits =
+    words-join_with_byte (verb_text verbs.Settle) [] (IsWord-verb_text verbs.Settle) tt
+words-spelling (Command.On side action) fits =
+    words-join_with_byte (verb_text (verb_of action)) (side_text side ∷ operands_of action)
+    (IsWord-verb_text (verb_of action))
+    (IsWord-side_text side, AreWords-operands_of action fits)
 
--- ---- verbs have different words
+-- a line says the command of its words, and no other
+pub Says-from_words : (line : List ℕ) (command : Command)
+    → IsCommand command → words_in line ≡ words_of command → Says line command
+Says-from_words line command fits same =
+    record {
+      in_range = fits;
+      spelled =
+          same_from_words (spelling command) line (words-spelling command fits ∙ sym same);
+    }
 
--- the verb of a word; any verb for a word of none
-verb_from : List ℕ → Verb
-verb_from word =
-    cond (bytes_eq word (codes "at")) verbs.At (
-    cond (bytes_eq word (codes "put")) verbs.Put (
-    cond (bytes_eq word (codes "pull")) verbs.Pull (
-    cond (bytes_eq word (codes "tick")) verbs.Tick (
-    cond (bytes_eq word (codes "close")) verbs.Close (
-    cond (bytes_eq word (codes "hear")) verbs.Hear (
-    cond (bytes_eq word (codes "hurt")) verbs.Hurt (
-    cond (bytes_eq word (codes "lost")) verbs.Lost (
-    cond (bytes_eq word (codes "open")) verbs.Open (
-    cond (bytes_eq word (codes "pause")) verbs.Pause (
-    cond (bytes_eq word (codes "start")) verbs.Start (
-    cond (bytes_eq word (codes "end")) verbs.End (
-    verbs.Settle))))))))))))
+pub words-from_Says : (line : List ℕ) (command : Command)
+    → Says line command → words_in line ≡ words_of command
+words-from_Says line command said =
+    ap words_in (sym said.spelled) ∙ words-spelling command said.in_range
 
-verb_from-verb_text : (verb : Verb) → verb_from (verb_text verb) ≡ verb
-unfolding verb_from
-verb_from-verb_text verbs.At = refl
-verb_from-verb_text verbs.Put = refl
-verb_from-verb_text verbs.Pull = refl
-verb_from-verb_text verbs.Tick = refl
-verb_from-verb_text verbs.Close = refl
-verb_from-verb_text verbs.Hear = refl
-verb_from-verb_text verbs.Hurt = refl
-verb_from-verb_text verbs.Lost = refl
-verb_from-verb_text verbs.Open = refl
-verb_from-verb_text verbs.Pause = refl
-verb_from-verb_text verbs.Start = refl
-verb_from-verb_text verbs.End = refl
-verb_from-verb_text verbs.Settle = refl
+-- ---- the first word of a command, and how many there are
 
-pub same_verb : (a b : Verb) → verb_text a ≡ verb_text b → a ≡ b
-same_verb a b e = sym (verb_from-verb_text a) ∙ ap verb_from e ∙ verb_from-verb_text b
+pub first_verb : Command → Verb
+first_verb (Command.At moment) = verbs.At
+first_verb Command.Settle = verbs.Settle
+first_verb (Command.On side action) = verb_of action
 
--- ---- a line that begins with a verb
+pub words_behind : Command → List (List ℕ)
+words_behind (Command.At moment) = decimal moment ∷ []
+words_behind Command.Settle = []
+words_behind (Command.On side action) = side_text side ∷ operands_of action
 
--- the line of a verb and what stands behind the space
-abbrev pub line_of : Verb → List ℕ → List ℕ
-line_of verb operands = verb_text verb ++ 32 ∷ operands
+pub words_of-parts : (command : Command)
+    → words_of command ≡ verb_text (first_verb command) ∷ words_behind command
+unfolding first_verb words_behind
+words_of-parts (Command.At moment) = refl
+words_of-parts Command.Settle = refl
+words_of-parts (Command.On side action) = refl
 
-pub Says-from_words : (verb : Verb) (operands : List ℕ) (command : Command) → IsCommand command → verb_of command ≡ verb
-    → operands_of command ≡ words operands → Says (line_of verb operands) command
-Says-from_words verb operands command fits same_word same = record {
-  in_range = fits;
-  spelled = same_from_words (spelling command) (line_of verb operands)
-      (words-spelling command fits ∙ cc (same_word, same, words-first (verb_text verb) operands (IsWord-verb_text verb)));
-}
+-- the verb says how many words there are behind it
+word_count : Verb → ℕ
+word_count verbs.Settle = 0
+word_count verbs.Put = 3
+word_count verbs.Hear = 2
+word_count verbs.Hurt = 3
+word_count _ = 1
 
-pub not_line-from_words : (verb : Verb) (operands : List ℕ)
-    → ((command : Command) → IsCommand command → verb_of command ≡ verb → operands_of command ≡ words operands → ⊥)
-    → IsScriptLine (line_of verb operands) → ⊥
-not_line-from_words verb operands none line =
-    let said = line.1 in
-    let both : verb_text (verb_of line.0) ∷ operands_of line.0 ≡ verb_text verb ∷ words operands =
-    sym (words-spelling line.0 said.in_range) ∙ ap words said.spelled ∙ words-first (verb_text verb) operands (IsWord-verb_text verb) in
-    none line.0 said.in_range (same_verb (verb_of line.0) verb (cc both)) (cc both)
+length-operands_of : (action : Action)
+    → length (operands_of action) + 1 ≡ word_count (verb_of action)
+unfolding word_count
+length-operands_of (Action.Put item) = refl
+length-operands_of _ = refl
 
--- ---- no command of the verb has these words
+length-words_behind : (command : Command)
+    → length (words_behind command) ≡ word_count (first_verb command)
+unfolding word_count first_verb words_behind
+length-words_behind (Command.At moment) = refl
+length-words_behind Command.Settle = refl
+length-words_behind (Command.On side action) = omega (arith, length-operands_of action)
 
-module _ (operands : List ℕ) where
-  pub not_put : ((side : Side) (item : Item) → item.ptype < 2 ^ 32 → IsPayload item.payload
-      → words operands ≡ side_text side ∷ decimal item.ptype ∷ hex_text item.payload ∷ [] → ⊥)
-      → IsScriptLine (line_of verbs.Put operands) → ⊥
-  not_put none = not_line-from_words verbs.Put operands of_put where
-    of_put : (command : Command) → IsCommand command → verb_of command ≡ verbs.Put → operands_of command ≡ words operands → ⊥
-    of_put (commands.Put side item) fits verb same = none side item fits.0 fits.1 (sym same)
-    of_put _ fits verb same = cc verb
-
-  pub not_hear : ((side : Side) (which : Which) → IsWhich which → words operands ≡ side_text side ∷ which_text which ∷ [] → ⊥)
-      → IsScriptLine (line_of verbs.Hear operands) → ⊥
-  not_hear none = not_line-from_words verbs.Hear operands of_hear where
-    of_hear : (command : Command) → IsCommand command → verb_of command ≡ verbs.Hear → operands_of command ≡ words operands → ⊥
-    of_hear (commands.Hear side which) fits verb same = none side which fits (sym same)
-    of_hear _ fits verb same = cc verb
-
-  pub not_hurt : ((side : Side) (which : Which) (place : ℕ) → IsWhich which → place < 2 ^ 64
-      → words operands ≡ side_text side ∷ which_text which ∷ decimal place ∷ [] → ⊥)
-      → IsScriptLine (line_of verbs.Hurt operands) → ⊥
-  not_hurt none = not_line-from_words verbs.Hurt operands of_hurt where
-    of_hurt : (command : Command) → IsCommand command → verb_of command ≡ verbs.Hurt → operands_of command ≡ words operands → ⊥
-    of_hurt (commands.Hurt side which place) fits verb same = none side which place fits.0 fits.1 (sym same)
-    of_hurt _ fits verb same = cc verb
-
--- ---- a line whose first word is a verb
-
-pub line_from_words : (verb : Verb) (word operands line : List ℕ) → verb_text verb ≡ word → words line ≡ word ∷ words operands
-    → line_of verb operands ≡ line
-line_from_words verb word operands line e cut =
-    same_from_words (line_of verb operands) line (cc (e, cut, words-first (verb_text verb) operands (IsWord-verb_text verb)))
+-- no command has the words of another one and more
+pub nothing_left : (a b : Command) (left : List (List ℕ)) → words_of b ≡ words_of a ++ left
+    → left ≡ []
+nothing_left a b left same =
+    let both : verb_text (first_verb b) ∷ words_behind b
+    ≡ verb_text (first_verb a) ∷ (words_behind a ++ left) =
+    sym (words_of-parts b) ∙ same ∙ ap (λ (ws : List (List ℕ)). ws ++ left) (words_of-parts a) in
+    let verb : first_verb b ≡ first_verb a = same_verb (first_verb b) (first_verb a) (cc both) in
+    let behind : words_behind b ≡ words_behind a ++ left = cc both in
+    nil_from_length left
+    (omega (
+      arith,
+      ap length behind,
+      length-append (words_behind a) left,
+      length-words_behind a,
+      length-words_behind b,
+      ap word_count verb,
+    ))

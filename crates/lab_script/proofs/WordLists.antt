@@ -10,10 +10,7 @@ use Rattle.std.proofs.lemmas.List.Sums.{AllPass-from_list_all}
 use Rattle.std.proofs.lemmas.List.Splits.{slice_split_none, slice_split_at, join_with_byte-slice_split}
 use Rattle.std.proofs.lemmas.Str.Parse.{IsNumeralModel, numerals_by_value, tells_digits, not_in_digits}
 use Rattle.hex.specs.Hex.{lower_digits, encode_with, encode_lower}
-
--- the pieces between spaces
-abbrev pub words : List ℕ → List (List ℕ)
-words text = slice_split (λ b. b == 32) text
+use Rattle.lab_script.specs.Lines.{words_in}
 
 -- no byte is a space
 abbrev pub IsWord : List ℕ → Type 0
@@ -25,31 +22,24 @@ is_word word = list_all (λ b. not (b == 32)) word
 
 pub IsWord-from_test : (word : List ℕ) → is_word word ≡ true → IsWord word
 IsWord-from_test word e =
-    All-weaker (λ b. not (b == 32) ≡ true) (λ b. (b == 32) ≡ false) (λ b h. not-true (b == 32) h) word
+    All-weaker (λ b. not (b == 32) ≡ true) (λ b. (b == 32) ≡ false) (λ b h. not-true (b == 32) h)
+    word
     (AllPass-from_list_all (λ b. not (b == 32)) word e)
 
 -- ---- words are the pieces of their text
 
-pub words-join_with_byte : (word : List ℕ) (others : List (List ℕ)) → IsWord word → AllByRecursion IsWord others
-    → words (join_with_byte 32 (word ∷ others)) ≡ word ∷ others
+pub words-join_with_byte : (word : List ℕ) (others : List (List ℕ)) → IsWord word
+    → AllByRecursion IsWord others
+    → words_in (join_with_byte 32 (word ∷ others)) ≡ word ∷ others
 words-join_with_byte word [] first rest = slice_split_none (λ b. b == 32) word first
 words-join_with_byte word (second ∷ others) first rest =
     slice_split_at (λ b. b == 32) word 32 (join_with_byte 32 (second ∷ others)) first refl
     ∙ ap (λ (ws : List (List ℕ)). word ∷ ws) (words-join_with_byte second others rest.0 rest.1)
 
-pub words-first : (word rest : List ℕ) → IsWord word → words (word ++ 32 ∷ rest) ≡ word ∷ words rest
-words-first word rest first = slice_split_at (λ b. b == 32) word 32 rest first refl
-
--- a text that is one word
-pub words-last : (word text : List ℕ) → IsWord word → word ≡ text → words text ≡ word ∷ []
-words-last word text last e = ap words (sym e) ∙ slice_split_none (λ b. b == 32) word last
-
-pub last_from_words : (word text : List ℕ) → words text ≡ word ∷ [] → word ≡ text
-last_from_words word text e = sym (ap (join_with_byte 32) e) ∙ join_with_byte-slice_split 32 text
-
 -- texts with the same pieces are one
-pub same_from_words : (a b : List ℕ) → words a ≡ words b → a ≡ b
-same_from_words a b e = sym (join_with_byte-slice_split 32 a) ∙ ap (join_with_byte 32) e ∙ join_with_byte-slice_split 32 b
+pub same_from_words : (a b : List ℕ) → words_in a ≡ words_in b → a ≡ b
+same_from_words a b e = sym (join_with_byte-slice_split 32 a) ∙ ap (join_with_byte 32) e
+    ∙ join_with_byte-slice_split 32 b
 
 -- ---- numbers and bytes are words
 
@@ -59,7 +49,8 @@ own = numerals_by_value (λ ds. AllDigits 10 ds) tells_digits
 pub IsWord-decimal : (n : ℕ) → n < 2 ^ 64 → IsWord (decimal n)
 IsWord-decimal n small =
     All-from_get_or (λ b. (b == 32) ≡ false) (decimal n) 0
-    (λ i below. ne_eqb _ _ (not_in_digits own (decimal n) 32 (decimal_is_IsNumeral n small).0.1 (λ in_range. absurd (omega (arith, in_range.0))) i below))
+    (λ i below. ne_eqb _ _ (not_in_digits own (decimal n) 32 (decimal_is_IsNumeral n small).0.1
+    (λ in_range. absurd (omega (arith, in_range.0))) i below))
 
 digit_is_no_space : (d : ℕ) → (get_or lower_digits d 0 == 32) ≡ false
 digit_is_no_space d =
@@ -72,7 +63,8 @@ all_no_space : (bytes : List ℕ) → is_word (encode_lower bytes) ≡ true
 unfolding encode_with
 all_no_space [] = refl
 all_no_space (b ∷ bytes) =
-    and_from _ _ (ap not (digit_is_no_space (b / 16))) (and_from _ _ (ap not (digit_is_no_space (b % 16))) (all_no_space bytes))
+    and_from _ _ (ap not (digit_is_no_space (b / 16)))
+    (and_from _ _ (ap not (digit_is_no_space (b % 16))) (all_no_space bytes))
 
 pub IsWord-encode_lower : (bytes : List ℕ) → IsWord (encode_lower bytes)
 IsWord-encode_lower bytes = IsWord-from_test (encode_lower bytes) (all_no_space bytes)

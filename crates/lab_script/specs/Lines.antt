@@ -1,4 +1,4 @@
--- The lines of an input.
+-- The lines of an input, and the words of a line.
 use Rattle.std.specs.Prelude.{ℕ, ◌==◌, List, [], ◌∷◌}
 use Rattle.std.specs.List.{slice_split}
 
@@ -12,3 +12,7 @@ without_empty_last (piece ∷ next ∷ more) = piece ∷ without_empty_last (nex
 -- the pieces between line feeds
 abbrev pub lines_of : List ℕ → List (List ℕ)
 lines_of input = without_empty_last (slice_split (λ b. b == 10) input)
+
+-- the pieces between spaces
+abbrev pub words_in : List ℕ → List (List ℕ)
+words_in line = slice_split (λ b. b == 32) line

@@ -3,8 +3,8 @@ use Rattle.std.specs.Prelude.{ℕ, ◌<◌, ◌^◌, List, [], ◌∷◌, codes,
 use Rattle.hex.specs.Hex.{encode_lower}
 use Rattle.chan_values.specs.declared.side.Side.{Side}
 use Rattle.chan_values.specs.declared.side.Side.TheVariants.{Plugin, Agent}
-use Rattle.lab_script.specs.declared.which.Which.{Which}
-use Rattle.lab_script.specs.declared.which.Which.TheVariants.{Number, Last}
+use Rattle.lab_script.specs.declared.word.Which.{Which}
+use Rattle.lab_script.specs.declared.word.Which.TheVariants.{Number, Last}
 
 -- the letter of an end
 abbrev pub side_text : Side → List ℕ

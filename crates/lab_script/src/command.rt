@@ -4,88 +4,72 @@ ghost use Rattle.std.specs.Prelude.{◌≡◌};
 ghost use Rattle.lab_script.specs.Command.{verb_of};
 
 use crate::verb::Verb;
-use crate::which::Which;
+use crate::word::Which;
 use chan_values::{Item, Side};
 
 /// What a line of a script asks for.
 #[derive(Debug, Drop)]
 pub enum Command {
     /// The moment is set, in milliseconds.
-    At {
-        moment: u64,
-    },
-    /// An end puts an item.
+    At { moment: u64 },
+    /// Both ends connect anew and exchange all that is left.
+    Settle,
+    /// One end does something.
+    On(Side, Action),
+}
+
+/// What a line asks of one end.
+#[derive(Debug, Drop)]
+pub enum Action {
+    /// It puts in an item.
     Put {
-        side: Side,
         item: Item,
     },
-    /// An end pulls.
-    Pull {
-        side: Side,
-    },
-    /// An end ticks.
-    Tick {
-        side: Side,
-    },
-    /// An end closes.
-    Close {
-        side: Side,
-    },
-    /// An end hears an emission of the other.
+    /// It pulls.
+    Pull,
+    /// It looks at its timer.
+    Tick,
+    /// It closes.
+    Close,
+    /// It hears an emission of the other end.
     Hear {
-        side: Side,
         which: Which,
     },
-    /// An end is given an emission of the other with one payload byte changed.
+    /// It is given an emission of the other end with one payload byte changed.
     Hurt {
-        side: Side,
         which: Which,
         /// The place of the byte in the payload, from 0.
         place: u64,
     },
-    /// An end loses its connection.
-    Lost {
-        side: Side,
-    },
-    /// An end has a connection.
-    Open {
-        side: Side,
-    },
-    /// An end hears a pause.
-    Pause {
-        side: Side,
-    },
-    /// An end hears a start.
-    Start {
-        side: Side,
-    },
-    /// An end hears a closing.
-    End {
-        side: Side,
-    },
-    /// Both ends connect anew and exchange all that is left.
-    Settle,
+    /// It loses its connection.
+    Lost,
+    /// It has a connection.
+    Open,
+    /// It hears a pause.
+    Pause,
+    /// It hears a start.
+    Start,
+    /// It hears a closing.
+    End,
 }
 
-impl Command {
-    /// The verb of the command.
+impl Action {
+    /// The verb of the action.
     pub fn verb(&self) -> Verb
         ensures { result ≡ verb_of self.now }
     {
         match self {
-            Command::At { .. } => Verb::At,
-            Command::Put { .. } => Verb::Put,
-            Command::Pull { .. } => Verb::Pull,
-            Command::Tick { .. } => Verb::Tick,
-            Command::Close { .. } => Verb::Close,
-            Command::Hear { .. } => Verb::Hear,
-            Command::Hurt { .. } => Verb::Hurt,
-            Command::Lost { .. } => Verb::Lost,
-            Command::Open { .. } => Verb::Open,
-            Command::Pause { .. } => Verb::Pause,
-            Command::Start { .. } => Verb::Start,
-            Command::End { .. } => Verb::End,
-            Command::Settle => Verb::Settle,
+            Action::Put { .. } => Verb::Put,
+            Action::Pull => Verb::Pull,
+            Action::Tick => Verb::Tick,
+            Action::Close => Verb::Close,
+            Action::Hear { .. } => Verb::Hear,
+            Action::Hurt { .. } => Verb::Hurt,
+            Action::Lost => Verb::Lost,
+            Action::Open => Verb::Open,
+            Action::Pause => Verb::Pause,
+            Action::Start => Verb::Start,
+            Action::End => Verb::End,
         }
     }
 }

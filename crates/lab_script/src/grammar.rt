@@ -1,18 +1,19 @@
-//! Reading a line of a script.
+//! Reading a line of a script, word by word.
 
-ghost use Rattle.std.specs.Prelude.{◌≡◌, ◌==◌, ◌++◌, ◌∷◌, [], IfOk, IfSome, IfNone, MatchOption};
-ghost use Rattle.std.specs.List.{slice_split};
-ghost use Rattle.lab_script.specs.Command.{Says, IsScriptLine};
-ghost use Rattle.lab_script.specs.Verb.{verb_text};
+ghost use Rattle.std.specs.Prelude.{◌≡◌, ◌≢◌, ◌∷◌, IfOk, IfSome, IfNone, MatchOption};
+ghost use Rattle.chan_values.specs.declared.side.Side.{Side};
+ghost use Rattle.lab_script.specs.declared.command.Action.{Action};
 ghost use Rattle.lab_script.specs.declared.verb.Verb.TheVariants as verbs;
+ghost use Rattle.lab_script.specs.Command.{IsAction, IsScriptLine, Says, operands_of, verb_of};
+ghost use Rattle.lab_script.specs.Grammar.{BeginsWith, IsNoAction, IsNoCommand, TakesAction};
+ghost use Rattle.lab_script.specs.Verb.{verb_text};
+ghost use Rattle.lab_script.specs.Words.{side_text};
 
-use crate::command::Command;
+use crate::command::{Action, Command};
 use crate::hexadecimal::read_payload;
-use crate::number::{read_number, read_short_number};
-use crate::side_letter::read_side;
-use crate::split::split_at_byte;
+use crate::pieces::Words;
 use crate::verb::Verb;
-use crate::which::Which;
+use crate::word::{Which, read_number, read_short_number, read_side};
 use chan_values::{Item, NoMemory};
 use std::alloc::Global;
 
@@ -21,98 +22,117 @@ pub fn parse(alloc: Global, line: &[u8]) -> Result<Option<Command>, NoMemory>
     ensures found { IfOk result (λ read. IfSome read (Says line.now)) }
     ensures none { IfOk result (λ read. IfNone read (¬ IsScriptLine line.now)) }
 {
-    let Some((word, operands)) = split_at_byte(line, b' ') else {
-        return Ok(read_word(line));
+    let mut words = Words::new(line);
+    let Some(command) = read_command(alloc, &mut words)? else {
+        return Ok(None);
     };
-    match Verb::read(word) {
-        None => Ok(None),
-        Some(verb) => read_command(alloc, verb, operands),
-    }
-}
-
-// The command of a verb, with what stands behind the space.
-fn read_command(alloc: Global, verb: Verb, operands: &[u8]) -> Result<Option<Command>, NoMemory>
-    ensures { let line = verb_text verb ++ 32 ∷ operands.now in
-        IfOk result (λ read. MatchOption read (¬ IsScriptLine line) (Says line)) }
-{
-    match verb {
-        Verb::At => Ok(read_at(operands)),
-        Verb::Put => read_put(alloc, operands),
-        Verb::Pull => Ok(read_side(operands).map(|side| Command::Pull { side })),
-        Verb::Tick => Ok(read_side(operands).map(|side| Command::Tick { side })),
-        Verb::Close => Ok(read_side(operands).map(|side| Command::Close { side })),
-        Verb::Hear => Ok(read_hear(operands)),
-        Verb::Hurt => Ok(read_hurt(operands)),
-        Verb::Lost => Ok(read_side(operands).map(|side| Command::Lost { side })),
-        Verb::Open => Ok(read_side(operands).map(|side| Command::Open { side })),
-        Verb::Pause => Ok(read_side(operands).map(|side| Command::Pause { side })),
-        Verb::Start => Ok(read_side(operands).map(|side| Command::Start { side })),
-        Verb::End => Ok(read_side(operands).map(|side| Command::End { side })),
-        Verb::Settle => Ok(None),
-    }
-}
-
-// The command of a line that is one word.
-fn read_word(line: &[u8]) -> Option<Command>
-    requires { slice_split (λ b. b == 32) line.now ≡ line.now ∷ [] }
-    ensures { MatchOption result (¬ IsScriptLine line.now) (Says line.now) }
-{
-    if line == b"settle".as_slice() {
-        Some(Command::Settle)
+    if words.is_empty() {
+        Ok(Some(command))
     } else {
-        None
+        Ok(None)
     }
 }
 
-fn read_at(operands: &[u8]) -> Option<Command>
-    ensures { let line = verb_text verbs.At ++ 32 ∷ operands.now in
-        MatchOption result (¬ IsScriptLine line) (Says line) }
+/// The command that the next words say.
+fn read_command(alloc: Global, words: &mut Words) -> Result<Option<Command>, NoMemory>
+    ensures { IfOk result (λ read.
+        MatchOption read (IsNoCommand words.old) (BeginsWith words.old words.new)) }
 {
-    let moment = read_number(operands)?;
+    let Some(word) = words.next_word() else {
+        return Ok(None);
+    };
+    let Some(verb) = Verb::read(word) else {
+        return Ok(None);
+    };
+    match verb {
+        Verb::At => Ok(read_at(words)),
+        Verb::Settle => Ok(Some(Command::Settle)),
+        _ => read_on(alloc, verb, words),
+    }
+}
+
+/// The moment behind `at`.
+fn read_at(words: &mut Words) -> Option<Command>
+    ensures { let all = verb_text verbs.At ∷ words.old in
+        MatchOption result (IsNoCommand all) (BeginsWith all words.new) }
+{
+    let moment = read_number(words.next_word()?)?;
     Some(Command::At { moment })
 }
 
-fn read_put(alloc: Global, operands: &[u8]) -> Result<Option<Command>, NoMemory>
-    ensures { let line = verb_text verbs.Put ++ 32 ∷ operands.now in
-        IfOk result (λ read. MatchOption read (¬ IsScriptLine line) (Says line)) }
+/// The end, and what it does, behind a verb of one end.
+fn read_on(alloc: Global, verb: Verb, words: &mut Words) -> Result<Option<Command>, NoMemory>
+    ensures { IfOk result (λ read. MatchOption read
+        ((side : Side) (action : Action) → IsAction action → verb_of action ≡ verb
+        → side_text side ∷ operands_of action ≢ words.old)
+        (BeginsWith (verb_text verb ∷ words.old) words.new)) }
 {
-    let Some((side, operands)) = split_at_byte(operands, b' ') else {
+    let Some(word) = words.next_word() else {
         return Ok(None);
     };
-    let Some((ptype, payload)) = split_at_byte(operands, b' ') else {
+    let Some(side) = read_side(word) else {
         return Ok(None);
     };
-    let Some(side) = read_side(side) else {
+    match read_action(alloc, verb, words)? {
+        Some(action) => Ok(Some(Command::On(side, action))),
+        None => Ok(None),
+    }
+}
+
+/// What an end does, by the verb and the words behind the end.
+fn read_action(alloc: Global, verb: Verb, words: &mut Words) -> Result<Option<Action>, NoMemory>
+    ensures { IfOk result (λ read.
+        MatchOption read (IsNoAction verb words.old) (TakesAction verb words.old words.new)) }
+{
+    match verb {
+        Verb::Put => read_put(alloc, words),
+        Verb::Pull => Ok(Some(Action::Pull)),
+        Verb::Tick => Ok(Some(Action::Tick)),
+        Verb::Close => Ok(Some(Action::Close)),
+        Verb::Hear => Ok(read_hear(words)),
+        Verb::Hurt => Ok(read_hurt(words)),
+        Verb::Lost => Ok(Some(Action::Lost)),
+        Verb::Open => Ok(Some(Action::Open)),
+        Verb::Pause => Ok(Some(Action::Pause)),
+        Verb::Start => Ok(Some(Action::Start)),
+        Verb::End => Ok(Some(Action::End)),
+        Verb::At | Verb::Settle => Ok(None),
+    }
+}
+
+fn read_put(alloc: Global, words: &mut Words) -> Result<Option<Action>, NoMemory>
+    ensures { IfOk result (λ read. MatchOption read
+        (IsNoAction verbs.Put words.old) (TakesAction verbs.Put words.old words.new)) }
+{
+    let Some(word) = words.next_word() else {
         return Ok(None);
     };
-    let Some(ptype) = read_short_number(ptype) else {
+    let Some(ptype) = read_short_number(word) else {
         return Ok(None);
     };
-    let Some(payload) = read_payload(alloc, payload)? else {
+    let Some(word) = words.next_word() else {
+        return Ok(None);
+    };
+    let Some(payload) = read_payload(alloc, word)? else {
         return Ok(None);
     };
     let item = Item { ptype, payload };
-    Ok(Some(Command::Put { side, item }))
+    Ok(Some(Action::Put { item }))
 }
 
-fn read_hear(operands: &[u8]) -> Option<Command>
-    ensures { let line = verb_text verbs.Hear ++ 32 ∷ operands.now in
-        MatchOption result (¬ IsScriptLine line) (Says line) }
+fn read_hear(words: &mut Words) -> Option<Action>
+    ensures { MatchOption result
+        (IsNoAction verbs.Hear words.old) (TakesAction verbs.Hear words.old words.new) }
 {
-    let (side, which) = split_at_byte(operands, b' ')?;
-    let side = read_side(side)?;
-    let which = Which::read(which)?;
-    Some(Command::Hear { side, which })
+    let which = Which::read(words.next_word()?)?;
+    Some(Action::Hear { which })
 }
 
-fn read_hurt(operands: &[u8]) -> Option<Command>
-    ensures { let line = verb_text verbs.Hurt ++ 32 ∷ operands.now in
-        MatchOption result (¬ IsScriptLine line) (Says line) }
+fn read_hurt(words: &mut Words) -> Option<Action>
+    ensures { MatchOption result
+        (IsNoAction verbs.Hurt words.old) (TakesAction verbs.Hurt words.old words.new) }
 {
-    let (side, operands) = split_at_byte(operands, b' ')?;
-    let (which, place) = split_at_byte(operands, b' ')?;
-    let side = read_side(side)?;
-    let which = Which::read(which)?;
-    let place = read_number(place)?;
-    Some(Command::Hurt { side, which, place })
+    let which = Which::read(words.next_word()?)?;
+    let place = read_number(words.next_word()?)?;
+    Some(Action::Hurt { which, place })
 }

@@ -6,23 +6,19 @@ mod command;
 mod grammar;
 mod hexadecimal;
 mod laws;
-mod lines;
-mod number;
 mod outcome;
+mod pieces;
 mod report;
-mod side_letter;
-mod split;
 #[cfg(test)]
 mod tests;
 mod verb;
-mod which;
+mod word;
 
-pub use command::Command;
+pub use command::{Action, Command};
 pub use grammar::parse;
 pub use laws::a_line_says_one_command;
-pub use lines::Lines;
-pub use number::read_number;
 pub use outcome::Outcome;
+pub use pieces::Lines;
 pub use report::push_line;
 pub use verb::Verb;
-pub use which::Which;
+pub use word::{Which, read_number};

@@ -6,10 +6,9 @@ ghost use Rattle.lab_script.specs.Words.{hex_text};
 ghost use Rattle.lab_script.specs.Report.{item_text, outcome_words, side_words, report_line};
 
 use crate::hexadecimal::push_bytes;
-use crate::number::push_number;
 use crate::outcome::Outcome;
-use crate::side_letter::letter_of;
 use crate::verb::Verb;
+use crate::word::{letter_of, push_number};
 use chan_values::{Item, NoMemory, Side};
 
 /// Puts a line of the report at the end. On want of memory nothing is put.

@@ -1,4 +1,4 @@
-use crate::{Command, Lines, Outcome, Verb, Which, parse, push_line};
+use crate::{Action, Command, Lines, Outcome, Verb, Which, parse, push_line};
 use chan_values::{Bytes, Item, Items, MAX_PAYLOAD, Side};
 use std::alloc::Global;
 use std::test::Fail;
@@ -55,28 +55,39 @@ fn lines_out_of_the_grammar_say_nothing(rt: HostRuntime) -> Result<(), Fail> {
 }
 
 #[test]
-fn lines_of_the_grammar_say_their_verb(rt: HostRuntime) -> Result<(), Fail> {
+fn lines_of_one_end_say_their_verb(rt: HostRuntime) -> Result<(), Fail> {
     let lines = [
-        ("at 18446744073709551615", Verb::At),
-        ("put A 4294967295 00ff", Verb::Put),
-        ("pull P", Verb::Pull),
-        ("tick A", Verb::Tick),
-        ("close P", Verb::Close),
-        ("hear A 0", Verb::Hear),
-        ("hurt P last 65535", Verb::Hurt),
-        ("lost A", Verb::Lost),
-        ("open P", Verb::Open),
-        ("pause A", Verb::Pause),
-        ("start P", Verb::Start),
-        ("end A", Verb::End),
-        ("settle", Verb::Settle),
+        ("put A 4294967295 00ff", Side::Agent, Verb::Put),
+        ("pull P", Side::Plugin, Verb::Pull),
+        ("tick A", Side::Agent, Verb::Tick),
+        ("close P", Side::Plugin, Verb::Close),
+        ("hear A 0", Side::Agent, Verb::Hear),
+        ("hurt P last 65535", Side::Plugin, Verb::Hurt),
+        ("lost A", Side::Agent, Verb::Lost),
+        ("open P", Side::Plugin, Verb::Open),
+        ("pause A", Side::Agent, Verb::Pause),
+        ("start P", Side::Plugin, Verb::Start),
+        ("end A", Side::Agent, Verb::End),
     ];
-    for (line, verb) in lines {
-        let Some(command) = parse(rt.alloc(), line.as_bytes())? else {
-            return Err(Fail::new("a line of the grammar was not read"));
+    for (line, end, verb) in lines {
+        let Some(Command::On(side, action)) = parse(rt.alloc(), line.as_bytes())? else {
+            return Err(Fail::new("a line of one end was not read"));
         };
-        assert_eq!(rt; command.verb(), verb, "{line:?}");
+        assert_eq!(rt; side, end, "{line:?}");
+        assert_eq!(rt; action.verb(), verb, "{line:?}");
     }
+    Ok(())
+}
+
+#[test]
+fn lines_of_both_ends_are_read(rt: HostRuntime) -> Result<(), Fail> {
+    let Some(Command::At { moment }) = parse(rt.alloc(), b"at 18446744073709551615")? else {
+        return Err(Fail::new("a moment was not read"));
+    };
+    assert_eq!(rt; moment, 18446744073709551615);
+    let Some(Command::Settle) = parse(rt.alloc(), b"settle")? else {
+        return Err(Fail::new("a settle was not read"));
+    };
     Ok(())
 }
 
@@ -88,7 +99,8 @@ fn a_put_has_its_type_and_its_bytes(rt: HostRuntime) -> Result<(), Fail> {
         ("put A 0 00ff", Side::Agent, 0, b"\x00\xff".as_slice()),
     ];
     for (line, end, ptype, payload) in cases {
-        let Some(Command::Put { side, item }) = parse(rt.alloc(), line.as_bytes())? else {
+        let Some(Command::On(side, Action::Put { item })) = parse(rt.alloc(), line.as_bytes())?
+        else {
             return Err(Fail::new("a put was not read"));
         };
         assert_eq!(rt; side, end, "{line:?}");
@@ -118,7 +130,7 @@ fn a_payload_has_its_limit(rt: HostRuntime) -> Result<(), Fail> {
 
 #[test]
 fn a_line_names_an_emission_and_a_place(rt: HostRuntime) -> Result<(), Fail> {
-    let Some(Command::Hurt { side, which, place }) = parse(
+    let Some(Command::On(side, Action::Hurt { which, place })) = parse(
         rt.alloc(),
         b"hurt A 18446744073709551615 7",
     )?
@@ -128,7 +140,7 @@ fn a_line_names_an_emission_and_a_place(rt: HostRuntime) -> Result<(), Fail> {
     assert_eq!(rt; side, Side::Agent);
     assert_eq!(rt; which, Which::Number(18446744073709551615));
     assert_eq!(rt; place, 7);
-    let Some(Command::Hear { side, which }) = parse(rt.alloc(), b"hear P last")? else {
+    let Some(Command::On(side, Action::Hear { which })) = parse(rt.alloc(), b"hear P last")? else {
         return Err(Fail::new("a hear was not read"));
     };
     assert_eq!(rt; side, Side::Plugin);

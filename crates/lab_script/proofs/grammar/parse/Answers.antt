@@ -1,31 +1,28 @@
-use Rattle.std.proofs.Common.{List, ℕ, Option, Some, None, Result, Ok, Err, subst}
-use Rattle.std.specs.Prelude.{IfOk, IfSome, IfNone, MatchOption}
-use Rattle.chan_values.specs.declared.no_memory.NoMemory.{NoMemory}
-use Rattle.lab_script.specs.declared.command.Command.{Command}
-use Rattle.lab_script.specs.Command.{Says, IsScriptLine}
-use Rattle.lab_script.proofs.Spelling.{line_from_words}
+use Rattle.std.proofs.Common.{◌≡◌, [], sym, ◌∙◌, append-nil}
+use Rattle.lab_script.specs.Command.{words_of}
+use Rattle.lab_script.specs.Grammar.{BeginsWith}
+use Rattle.lab_script.proofs.Spelling.{Says-from_words, nothing_left, words-from_Says}
 use Rattle.lab_script.proofs.grammar.parse.Goals as goal
 
--- what a line that was read says
-abbrev IsRead : List ℕ → Result (Option Command) NoMemory → Type 0
-IsRead line r = IfOk r (λ read. MatchOption read (¬ IsScriptLine line) (Says line))
+pub returns-in_default-clause-none : goal.returns-in_default-clause-none
+returns-in_default-clause-none c said =
+    let none = rw c.in_default.is at c.in_ok-command.ensures in
+    none said.0 said.1.in_range
+    (sym (words-from_Says c.args.line.now said.0 said.1) ∙ sym c.new-words.ensures)
 
-found : (line : List ℕ) (r : Result (Option Command) NoMemory) → IsRead line r → IfOk r (λ read. IfSome read (Says line))
-found line (Ok (Some command)) h = h
-found line (Ok None) h = tt
-found line (Err e) h = tt
+pub returns-then-is_empty-clause-found : goal.returns-then-is_empty-clause-found
+returns-then-is_empty-clause-found c =
+    let begins = rw c.in-Some.is at c.in_ok-command.ensures in
+    let left : c.read_command.new.words ≡ [] = c.is_empty.ensures.0 c.if-is_empty.true in
+    Says-from_words c.args.line.now c.in-Some.command begins.in_range
+    (sym c.new-words.ensures ∙ begins.spelled ∙ rw left (append-nil _))
 
-none : (line : List ℕ) (r : Result (Option Command) NoMemory) → IsRead line r → IfOk r (λ read. IfNone read (¬ IsScriptLine line))
-none line (Ok (Some command)) h = tt
-none line (Ok None) h = h
-none line (Err e) h = tt
-
-pub returns-in-Some-read-clause-found : goal.returns-in-Some-read-clause-found
-returns-in-Some-read-clause-found c =
-    let same = line_from_words c.in-Some-read.verb c.in-Some.word.now c.in-Some.operands.now c.args.line.now c.in-Some-read.ensures.found c.in-Some.ensures in
-    found c.args.line.now c.read_command.result (subst (λ (l : List ℕ). IsRead l c.read_command.result) same c.read_command.ensures)
-
-pub returns-in-Some-read-clause-none : goal.returns-in-Some-read-clause-none
-returns-in-Some-read-clause-none c =
-    let same = line_from_words c.in-Some-read.verb c.in-Some.word.now c.in-Some.operands.now c.args.line.now c.in-Some-read.ensures.found c.in-Some.ensures in
-    none c.args.line.now c.read_command.result (subst (λ (l : List ℕ). IsRead l c.read_command.result) same c.read_command.ensures)
+pub returns-else-is_empty-clause-none : goal.returns-else-is_empty-clause-none
+returns-else-is_empty-clause-none c said =
+    let begins = rw c.in-Some.is at c.in_ok-command.ensures in
+    let none : c.read_command.new.words ≡ [] =
+    nothing_left c.in-Some.command said.0 c.read_command.new.words
+    (sym (words-from_Says c.args.line.now said.0 said.1) ∙ sym c.new-words.ensures
+    ∙ begins.spelled) in
+    let taken = c.is_empty.ensures.1 none in
+    absurd (cc (taken, c.if-is_empty.false))
