@@ -15,7 +15,7 @@ use Rattle.std.proofs.lemmas.Map.Keys.{sorted_head, sorted_tail}
 use Rattle.chan_values.specs.declared.item.Item.{Item}
 use Rattle.receive_window.specs.declared.take.Take.{Take}
 use Rattle.receive_window.specs.declared.take.Take.TheVariants as takes
-use Rattle.receive_window.specs.Window.{WindowState, Releases, item_with, items_in_order, is_taken}
+use Rattle.receive_window.specs.Window.{AreDifferent, WindowState, Releases, item_with, items_in_order, is_taken}
 
 -- a key is found exactly where it is the number
 pub is_at-same : (n k : ℕ) → is_at (nat_cmp n) k ≡ eqb n k
@@ -99,9 +99,10 @@ pub Releases-early : (w e n : ℕ) (item : Item) (early new : List (ℕ × Item)
     → e < n
     → ((k : ℕ) → IsSome (item_with early k) → e < k)
     → ((k : ℕ) → item_with new k ≡ cond (eqb n k) (Some item) (item_with early k))
+    → AreDifferent new
     → Releases (record { window = w; expected = e; early = early }) ((n, item) ∷ early) []
     (record { window = w; expected = e; early = new })
-Releases-early w e n item early new ahead above updated =
+Releases-early w e n item early new ahead above updated different =
     record {
       window = refl;
       grows = omega arith;
@@ -114,6 +115,7 @@ Releases-early w e n item early new ahead above updated =
           (gap k (omega arith)))
           (λ (high : e ≤ k). rw (le-ltb k e high) (sym (item_with-cons early n k item)))
           (cases_lt k e);
+      different = different;
     }
   where
     gap : (k : ℕ) → k ≤ e → item_with early k ≡ None
@@ -126,9 +128,10 @@ pub Releases-next : (w e to : ℕ) (item : Item) (items : List Item) (early new 
     → ((k : ℕ) → e + 1 ≤ k → k < to → IsSome (item_with early k)) → item_with early to ≡ None
     → ((k : ℕ) → (e + 1 ≤ k → to ≤ k) → item_with new k ≡ item_with early k)
     → ((k : ℕ) → e + 1 ≤ k → k < to → item_with new k ≡ None)
+    → AreDifferent new
     → Releases (record { window = w; expected = e; early = early }) ((e, item) ∷ early) items
     (record { window = w; expected = to; early = new })
-Releases-next w e to item items early new above grows list there missing rest gone =
+Releases-next w e to item items early new above grows list there missing rest gone different =
     record {
       window = refl;
       grows = omega arith;
@@ -144,6 +147,7 @@ Releases-next w e to item items early new above grows list there missing rest go
           (λ (high : to ≤ k). rw (le-ltb k to high)
           (rest k (λ _. high) ∙ sym (other k (λ q. omega arith))))
           (cases_lt k to);
+      different = different;
     }
   where
     other : (k : ℕ) → (e ≡ k → ⊥) → item_with ((e, item) ∷ early) k ≡ item_with early k
@@ -174,12 +178,13 @@ pub Releases-next_at : (w e n to : ℕ) (item : Item) (items : List Item)
     → ((k : ℕ) → n + 1 ≤ k → k < to → IsSome (item_with early k)) → item_with early to ≡ None
     → ((k : ℕ) → (n + 1 ≤ k → to ≤ k) → item_with new k ≡ item_with early k)
     → ((k : ℕ) → n + 1 ≤ k → k < to → item_with new k ≡ None)
+    → AreDifferent new
     → Releases (record { window = w; expected = e; early = early }) ((n, item) ∷ early) items
     (record { window = w; expected = to; early = new })
-Releases-next_at w e n to item items early new here above grows list there missing rest gone =
+Releases-next_at w e n to item items early new here above grows list there missing rest gone different =
     rw here (Releases-next w e to item items early new above (omega arith) (rw (← here) list)
     (λ k low. there k (omega arith)) missing (λ k beyond. rest k (λ low. beyond (omega arith)))
-    (λ k low. gone k (omega arith)))
+    (λ k low. gone k (omega arith)) different)
 
 -- equal or greater isn't less
 neither : (b : Bool) → cond b Equal Greater ≡ Less → ⊥

@@ -7,7 +7,7 @@ use Rattle.chan_values.specs.Limits.{max_window}
 use Rattle.receive_window.specs.Window.{item_with}
 
 -- the early numbers ascend between the next one and the end of the window
-pub record IsSound (window expected : ℕ) (early : BTreeMap ℕ Item) : Type 0 where
+pub record IsReassembly (window expected : ℕ) (early : BTreeMap ℕ Item) : Type 0 where
   pub low : 1 ≤ window
   pub high : window ≤ max_window
   pub numbers : expected ≤ 2 ^ 63

@@ -1,5 +1,5 @@
 -- The receive window of one end: what came, by number (RCV.NXT of RFC 9293, 3.3.1, in messages).
-use Rattle.std.specs.Prelude.{◌≡◌, ℕ, ◌-◌, ◌<◌, ◌≤◌, Bool, ◌||◌, Option, None, List, [], is_some, IsSome, nat_eq, nat_lt, if◌then◌else◌}
+use Rattle.std.specs.Prelude.{◌≡◌, ◌≢◌, AllPairs, ℕ, ◌-◌, ◌<◌, ◌≤◌, Bool, ◌||◌, Option, None, List, [], is_some, IsSome, nat_eq, nat_lt, if◌then◌else◌}
 use Rattle.std.specs.List.{filter_map, range_with_len}
 use Rattle.std.specs.Map.{lookup}
 use Rattle.chan_values.specs.declared.item.Item.{Item}
@@ -22,6 +22,10 @@ empty_window window = record { window = window; expected = 0; early = [] }
 -- the item with a number
 abbrev pub item_with : List (ℕ × Item) → ℕ → Option Item
 item_with items n = lookup (nat_eq n) items
+
+-- no number stands twice: with the look-up of each number this fixes which items there are
+abbrev pub AreDifferent : List (ℕ × Item) → Type 0
+AreDifferent items = AllPairs (λ (p q : ℕ × Item). p.0 ≢ q.0) items
 
 -- whether a number was taken
 abbrev pub is_taken : WindowState → ℕ → Bool
@@ -49,6 +53,8 @@ pub record Releases
   -- what stays
   pub early : (n : ℕ)
       → item_with new.early n ≡ (if nat_lt n new.expected then None else item_with arrived n)
+  -- each once
+  pub different : AreDifferent new.early
 
 -- a message that is taken
 abbrev pub IfReleased : Take → (List Item → Type 0) → Type 0

@@ -14,24 +14,31 @@ fn item(alloc: Global, byte: u8) -> Result<Item, Fail> {
 #[test]
 fn an_early_item_waits_for_the_one_before_it(rt: HostRuntime) -> Result<(), Fail> {
     let alloc = rt.alloc();
-    let mut window = Window::new(alloc, 2).expect(&rt, "there is memory");
+    let mut window = Window::new(alloc, 3).expect(&rt, "there is memory");
+    let fourth = window.take(3, item(alloc, b'd')?);
+    assert!(rt; matches!(fourth, Take::Beyond), "three is outside");
     let third = window.take(2, item(alloc, b'c')?);
-    assert!(rt; matches!(third, Take::Beyond), "two is outside");
-    let second = window.take(1, item(alloc, b'b')?);
-    assert!(rt; released(&second) == Some(0), "it is early");
-    assert!(rt; window.held() == 1, "and waits");
-    let first = window.take(0, item(alloc, b'a')?);
-    assert!(rt; released(&first) == Some(2), "both are in order");
-    let again = window.take(1, item(alloc, b'b')?);
+    assert!(rt; releases(&third, b""), "it is early");
+    let again = window.take(2, item(alloc, b'x')?);
     assert!(rt; matches!(again, Take::Late), "it was taken");
-    assert!(rt; window.expected() == 2, "two is next");
+    let second = window.take(1, item(alloc, b'b')?);
+    assert!(rt; releases(&second, b""), "it is early too");
+    assert!(rt; window.held() == 2, "both wait");
+    let first = window.take(0, item(alloc, b'a')?);
+    assert!(rt; releases(&first, b"abc"), "all are in order");
+    assert!(rt; window.held() == 0, "none waits");
+    let next = window.take(3, item(alloc, b'd')?);
+    assert!(rt; releases(&next, b"d"), "three is next");
+    assert!(rt; window.expected() == 4, "then four");
     Ok(())
 }
 
-/// How many items are released, if any.
-fn released(take: &Take) -> Option<usize> {
-    match take {
-        Take::Released(items) => Some(items.as_slice().len()),
-        _ => None,
-    }
+/// Whether these items of one byte each are released, in this order.
+fn releases(take: &Take, bytes: &[u8]) -> bool {
+    let Take::Released(items) = take else {
+        return false;
+    };
+    items.as_slice().len() == bytes.len()
+        && items.as_slice().iter().zip(bytes).all(|(item, byte)| item.payload.as_slice()
+            == [*byte].as_slice())
 }

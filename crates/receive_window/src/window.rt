@@ -1,8 +1,8 @@
 //! The receive window: stream messages come in any order and leave by number, each once.
 
-ghost use Rattle.std.specs.Prelude.{◌≡◌, ◌≢◌, ◌↔◌, ◌+◌, ◌-◌, ◌^◌, ◌<◌, ◌≤◌, ◌∷◌, AllPairs, IfOk, IsTrue, length};
+ghost use Rattle.std.specs.Prelude.{◌≡◌, ◌↔◌, ◌+◌, ◌-◌, ◌^◌, ◌<◌, ◌≤◌, ◌∷◌, IfOk, IsTrue, length};
 ghost use Rattle.chan_values.specs.Limits.{max_window};
-ghost use Rattle.receive_window.specs.Window.{empty_window, is_taken, Releases, IfReleased, IfRefused};
+ghost use Rattle.receive_window.specs.Window.{AreDifferent, empty_window, is_taken, Releases, IfReleased, IfRefused};
 
 use crate::release::release;
 use crate::take::Take;
@@ -22,7 +22,7 @@ pub struct Window {
 
 impl Model for Window {
     ghost use Rattle.receive_window.specs.Window.{WindowState};
-    ghost use Rattle.receive_window.specs.Inside.{IsSound};
+    ghost use Rattle.receive_window.specs.Inside.{IsReassembly};
 
     ghost Value = { WindowState };
 
@@ -32,7 +32,7 @@ impl Model for Window {
       early = w.early.entries;
     } };
 
-    ghost invariant = { λ w. IsSound w.window w.expected w.early };
+    ghost invariant = { λ w. IsReassembly w.window w.expected w.early };
 }
 
 impl Window {
@@ -51,6 +51,7 @@ impl Window {
     }
 
     /// Takes a stream message, where it is new and inside the window.
+    #[tactic(auto, using(crate::proofs::ItemLemmas::numbers_differ))]
     pub fn take(&mut self, seq: u64, item: Item) -> Take
         requires { seq < 2 ^ 63 }
         ensures late { (result ≡ Take.Late) ↔ IsTrue (is_taken self.old seq) }
@@ -58,6 +59,7 @@ impl Window {
         ensures released { IfReleased result (λ items.
             Releases self.old ((seq, item) ∷ self.old.early) items self.new) }
         ensures refused { IfRefused result item self.old self.new }
+        ensures different { AreDifferent self.new.early }
     {
         if seq < self.expected || self.early.contains_key(&seq) {
             return Take::Late;
@@ -89,7 +91,7 @@ impl Window {
     /// How many items wait for an earlier one: fewer than the window has.
     pub fn held(&self) -> u64
         ensures count { result ≡ length self.now.early }
-        ensures different { AllPairs (λ p q. p.0 ≢ q.0) self.now.early }
+        ensures different { AreDifferent self.now.early }
         ensures few { result ≤ self.now.window - 1 }
     {
         self.early.len() as u64

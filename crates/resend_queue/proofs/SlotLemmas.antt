@@ -12,9 +12,9 @@ use Rattle.std.proofs.lemmas.List.Elements.{All-head, All-tail, All-map, All-wea
 use Rattle.std.proofs.lemmas.List.{map-append}
 use Rattle.std.proofs.lemmas.Map.Keys.{sorted_head, sorted_tail}
 use Rattle.resend_queue.specs.declared.slot.Slot.{Slot}
-use Rattle.resend_queue.specs.declared.mark.Mark.TheVariants as marks
+use Rattle.resend_queue.specs.declared.answer.Mark.TheVariants as marks
 use Rattle.resend_queue.specs.Queue.{Pending, changed_at, first_number, is_overdue, mark_answer_of, unsent, without_number}
-use Rattle.resend_queue.specs.Slot.{pending_of}
+use Rattle.resend_queue.specs.Inside.{pending_of}
 use Rattle.resend_queue.specs.Inside.{IsKept}
 
 -- a key is found exactly where it is the number

@@ -1,4 +1,3 @@
 pub mod Inside
 pub mod Queue
 pub mod RoundTrips
-pub mod Slot

@@ -2,13 +2,14 @@
 -- 3.3.1, in messages).
 use Rattle.std.specs.Prelude.{ℕ, ◌<◌, ◌≤◌, ◌^◌, length, ◌+◌, ◌-◌, ◌==◌, ◌&&◌, ◌||◌, Bool, true, false, not, Option, Some, None, List, [], ◌∷◌, ◌++◌, map, filter, find, nat_lt, nat_le, option_and_then, if◌then◌else◌}
 use Rattle.chan_values.specs.declared.item.Item.{Item}
-use Rattle.resend_queue.specs.declared.kept.Kept.{Kept}
-use Rattle.resend_queue.specs.declared.kept.Kept.TheVariants as kepts
-use Rattle.resend_queue.specs.declared.mark.Mark.{Mark}
-use Rattle.resend_queue.specs.declared.mark.Mark.TheVariants as marks
-use Rattle.resend_queue.specs.declared.out.Out.{Out}
-use Rattle.resend_queue.specs.declared.sent.Sent.{Sent}
-use Rattle.resend_queue.specs.declared.out.Out.TheVariants as outs
+use Rattle.chan_values.specs.Limits.{max_payload, max_seq}
+use Rattle.resend_queue.specs.declared.answer.Kept.{Kept}
+use Rattle.resend_queue.specs.declared.answer.Kept.TheVariants as kepts
+use Rattle.resend_queue.specs.declared.answer.Mark.{Mark}
+use Rattle.resend_queue.specs.declared.answer.Mark.TheVariants as marks
+use Rattle.resend_queue.specs.declared.answer.Out.{Out}
+use Rattle.resend_queue.specs.declared.answer.Sent.{Sent}
+use Rattle.resend_queue.specs.declared.answer.Out.TheVariants as outs
 
 -- a message that was put in and isn't acknowledged
 pub record Pending : Type 0 where
@@ -37,10 +38,6 @@ pub record QueueState : Type 0 where
   pub pending : List Pending
   -- how often the lowest unacknowledged number was marked due
   pub dues : ℕ
-
--- the largest count of messages
-abbrev pub max_messages : ℕ
-max_messages = 9223372036854775807
 
 -- how often one number may be marked due
 abbrev pub max_dues : ℕ
@@ -75,7 +72,7 @@ new_message seq item id date =
 -- what a put is answered, where memory doesn't fail
 abbrev pub put_answer : QueueState → Item → Kept
 put_answer q item =
-    if q.next == max_messages then kepts.Spent item
+    if q.next == max_seq + 1 then kepts.Spent item
     else if q.next - lowest q == q.window then kepts.Full item
     else kepts.Seq q.next
 
@@ -110,8 +107,8 @@ after_ack q seq None = q
 after_ack q seq (Some moment) = without_number q seq
 
 -- a message may be transmitted: not yet since the last reopening, or its timer expired
-abbrev pub is_eligible : Pending → Bool
-is_eligible p = not p.sent || p.due
+abbrev pub is_ready : Pending → Bool
+is_ready p = not p.sent || p.due
 
 -- more than the timeout has passed since a moment
 abbrev pub is_past : Option ℕ → ℕ → ℕ → Bool
@@ -151,19 +148,19 @@ after_mark q (marks.Due seq) =
 after_mark q answer = q
 
 -- the message with the least number that may be transmitted
-abbrev pub first_eligible : QueueState → Option Pending
-first_eligible q = find is_eligible q.pending
+abbrev pub first_ready : QueueState → Option Pending
+first_ready q = find is_ready q.pending
 
 -- a message as it goes out
 abbrev pub out_of : Option Pending → Out
 out_of None = outs.Idle
 out_of (Some p) = outs.Stream (record { seq = p.seq; id = p.id; date = p.date; item = p.item })
 
--- a message can be encoded: its number is below 2^63, it has a date, and its payload is at most 65,536
--- bytes
-abbrev pub IsEncodable : Sent → Type 0
-IsEncodable sent =
-    (sent.seq < 2 ^ 63) × (0 < sent.date) × (length sent.item.payload ≤ 65536)
+-- a message can be transmitted: its number is below 2^63, it has a date, and its payload is not longer
+-- than a message's may be
+abbrev pub IsTransmittable : Sent → Type 0
+IsTransmittable sent =
+    (sent.seq < 2 ^ 63) × (0 < sent.date) × (length sent.item.payload ≤ max_payload)
 
 -- what goes out, if anything does
 abbrev pub IfStream : Out → (Sent → Type 0) → Type 0

@@ -2,25 +2,21 @@
 
 ghost use Rattle.std.specs.Prelude.{◌≡◌, ◌⊎◌, ◌<◌, ◌≤◌, IfOk, length};
 ghost use Rattle.chan_values.specs.Limits.{max_payload, max_window};
-ghost use Rattle.resend_queue.specs.Queue.{after_ack, after_mark, after_out, after_put, empty_queue, first_eligible};
-ghost use Rattle.resend_queue.specs.Queue.{IfStream, IsEncodable, lowest, mark_answer, moment_of, out_of, put_answer, reopened};
+ghost use Rattle.resend_queue.specs.Queue.{after_ack, after_mark, after_out, after_put, empty_queue, first_ready};
+ghost use Rattle.resend_queue.specs.Queue.{IfStream, IsTransmittable, lowest, mark_answer, moment_of, out_of, put_answer, reopened};
 
-use crate::kept::Kept;
-use crate::mark::Mark;
-use crate::out::Out;
-use crate::sent::Sent;
-use crate::slot::Slot;
-use crate::slots::{first_eligible, mark, reopen, transmit};
-use chan_values::{Item, NoMemory};
+use crate::answer::{Kept, Mark, Out, Sent};
+use crate::slot::{Slot, first_ready, mark, reopen, transmit};
+use chan_values::{Item, MAX_SEQ, NoMemory};
 use std::alloc::Global;
 use std::collections::BTreeMap;
 use std::marker::Model;
 
-/// The largest count of messages: numbers go from 0 to 2^63 - 2.
-pub const MAX_MESSAGES: u64 = (1 << 63) - 1;
+#[cfg(test)]
+mod tests;
 
 /// How often one message may be marked due.
-pub const MAX_DUES: u64 = 3000;
+const MAX_DUES: u64 = 3000;
 
 /// The messages that were put in and are not acknowledged, by number.
 #[derive(Drop)]
@@ -38,8 +34,8 @@ impl Model for Queue {
 
     ghost Value = { QueueState };
 
-    ghost use Rattle.resend_queue.specs.Slot.{messages};
-    ghost use Rattle.resend_queue.specs.Inside.{IsSound};
+    ghost use Rattle.resend_queue.specs.Inside.{messages};
+    ghost use Rattle.resend_queue.specs.Inside.{IsRetransmissionQueue};
 
     ghost view = { λ q. record {
       window = q.window;
@@ -48,7 +44,7 @@ impl Model for Queue {
       dues = q.dues;
     } };
 
-    ghost invariant = { λ q. IsSound q.next q.slots q.dues };
+    ghost invariant = { λ q. IsRetransmissionQueue q.next q.slots q.dues };
 }
 
 impl Queue {
@@ -91,7 +87,7 @@ impl Queue {
         ensures answer { (result ≡ put_answer self.old item) ⊎ (result ≡ Kept.NoMemory item) }
         ensures state { self.new ≡ after_put self.old item id date result }
     {
-        if self.next == MAX_MESSAGES {
+        if self.next == MAX_SEQ + 1 {
             return Kept::Spent(item);
         }
         let low = self.low();
@@ -156,11 +152,11 @@ impl Queue {
     /// The lowest message that may be transmitted: not yet on this connection, or marked due. It
     /// counts as transmitted at this moment.
     pub fn next_out(&mut self, now: u64) -> Out
-        ensures answer { (result ≡ out_of (first_eligible self.old)) ⊎ (result ≡ Out.NoMemory) }
+        ensures answer { (result ≡ out_of (first_ready self.old)) ⊎ (result ≡ Out.NoMemory) }
         ensures state { self.new ≡ after_out self.old now result }
-        ensures encodable { IfStream result IsEncodable }
+        ensures transmittable { IfStream result IsTransmittable }
     {
-        let Some((seq, slot)) = first_eligible(&self.slots) else {
+        let Some((seq, slot)) = first_ready(&self.slots) else {
             return Out::Idle;
         };
         let Ok(item) = slot.item.copy(self.alloc) else {

@@ -4,7 +4,7 @@ use Rattle.std.specs.Option.{IsSome}
 use Rattle.chan_values.specs.declared.item.Item.{Item}
 use Rattle.receive_window.specs.declared.take.Take.TheVariants as takes
 use Rattle.receive_window.specs.Window.{WindowState, item_with, items_in_order}
-use Rattle.receive_window.proofs.ItemLemmas.{is_at-same, lookup-item_with, Releases-early, Releases-next_at, fresh, not_late, released-not_late, no_memory-not_late, late-not_beyond}
+use Rattle.receive_window.proofs.ItemLemmas.{is_at-same, lookup-item_with, Releases-early, Releases-next_at, fresh, not_late, released-not_late, no_memory-not_late, late-not_beyond, numbers_differ}
 use Rattle.receive_window.proofs.window.Window.take.Goals as goal
 use Rattle.receive_window.proofs.window.Window.take.Goals.{then-seq-self-via-then-seq-self, then-seq-self-via-else-seq-self+then-contains_key}
 
@@ -67,7 +67,8 @@ pub returns-in-Ok-clause-released : goal.returns-in-Ok-clause-released
 returns-in-Ok-clause-released c =
     let inside = c.self.inside in
     rw (← c.self.view_is, c.none.ensures)
-    (Releases-early inside.window inside.expected c.args.seq c.args.item inside.early.entries c.insert.new.self.entries c.if-seq-self-3.true c.self.invariant.above (inserted c))
+    (Releases-early inside.window inside.expected c.args.seq c.args.item inside.early.entries c.insert.new.self.entries c.if-seq-self-3.true c.self.invariant.above (inserted c)
+    (numbers_differ c.insert.new.self.entries c.in-Ok.ensures.ordered))
 
 pub returns-in-Err-clause-late : goal.returns-in-Err-clause-late
 returns-in-Err-clause-late c =
@@ -92,4 +93,5 @@ returns-clause-released c =
     (c.args.seq + 1) c.release-self-inside.result) (c.push_reserved.ensures.items
     ∙ ap (λ (l : List Item). l ++ c.args.item ∷ []) c.in-Ok-with_capacity.ensures.items) in
     rw (← c.self.view_is, c.new.ensures)
-    (Releases-next_at inside.window inside.expected c.args.seq c.release-self-inside.result c.args.item c.release-self-inside.new.items.items inside.early.entries c.release-self-inside.new.early.entries here sound.above r.from list r.there r.missing r.rest r.gone)
+    (Releases-next_at inside.window inside.expected c.args.seq c.release-self-inside.result c.args.item c.release-self-inside.new.items.items inside.early.entries c.release-self-inside.new.early.entries here sound.above r.from list r.there r.missing r.rest r.gone
+    (numbers_differ c.release-self-inside.new.early.entries r.ordered))

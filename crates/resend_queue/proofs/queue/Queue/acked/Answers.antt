@@ -6,7 +6,7 @@ use Rattle.std.specs.Map.{remove_entry}
 use Rattle.std.specs.Ordering.{nat_cmp}
 use Rattle.resend_queue.specs.declared.slot.Slot.{Slot}
 use Rattle.resend_queue.specs.Queue.{Pending, lowest, first_number}
-use Rattle.resend_queue.specs.Slot.{messages, pending_of}
+use Rattle.resend_queue.specs.Inside.{messages, pending_of}
 use Rattle.resend_queue.specs.Inside.{IsKept}
 use Rattle.resend_queue.proofs.SlotLemmas.{without_number-removed, remove_entry-messages}
 use Rattle.resend_queue.proofs.queue.Queue.acked.Goals as goal

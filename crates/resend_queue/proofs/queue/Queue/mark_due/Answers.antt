@@ -1,6 +1,6 @@
 use Rattle.std.proofs.Common.{sym, ◌∙◌, arith}
 use Rattle.resend_queue.specs.Queue.{marked}
-use Rattle.resend_queue.specs.Slot.{messages}
+use Rattle.resend_queue.specs.Inside.{messages}
 use Rattle.resend_queue.specs.Inside.{IsKept}
 use Rattle.resend_queue.proofs.SlotLemmas.{mark-nothing, mark-gave_up, mark-due, All-changed_at}
 use Rattle.resend_queue.proofs.queue.Queue.mark_due.Goals as goal

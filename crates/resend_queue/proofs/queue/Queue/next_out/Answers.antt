@@ -1,6 +1,6 @@
 use Rattle.std.proofs.Common.{arith, sym}
-use Rattle.resend_queue.specs.Queue.{is_eligible, transmitted}
-use Rattle.resend_queue.specs.Slot.{messages, pending_of}
+use Rattle.resend_queue.specs.Queue.{is_ready, transmitted}
+use Rattle.resend_queue.specs.Inside.{messages, pending_of}
 use Rattle.resend_queue.specs.Inside.{IsKept}
 use Rattle.resend_queue.proofs.SlotLemmas.{All-changed_at, All-find}
 use Rattle.resend_queue.proofs.queue.Queue.next_out.Goals as goal
@@ -18,12 +18,12 @@ invariant_of-self c =
       marks = sound.marks;
     }
 
-pub returns-clause-encodable : goal.returns-clause-encodable
-returns-clause-encodable c =
+pub returns-clause-transmittable : goal.returns-clause-transmittable
+returns-clause-transmittable c =
     let inside = c.self.inside in
     let sound = c.self.invariant in
     let kept : IsKept inside.next (pending_of (c.in-Some.seq, c.in-Some.slot.now))
-    = All-find (IsKept inside.next) is_eligible (messages inside.slots)
+    = All-find (IsKept inside.next) is_ready (messages inside.slots)
     (pending_of (c.in-Some.seq, c.in-Some.slot.now)) sound.kept (sym c.in-Some.ensures) in (
       let below = kept.below in let numbers = sound.numbers in
           omega arith,

@@ -1,9 +1,9 @@
 use Rattle.std.proofs.Common.{ℕ, inr, ◌≡◌, ◌++◌, ◌∷◌, [], List, ◌+◌, ◌∙◌, ap, arith}
 use Rattle.std.proofs.lemmas.List.Elements.{All-push}
-use Rattle.resend_queue.specs.declared.kept.Kept.TheVariants as Kept
+use Rattle.resend_queue.specs.declared.answer.Kept.TheVariants as Kept
 use Rattle.resend_queue.specs.declared.slot.Slot.{Slot}
 use Rattle.resend_queue.specs.Queue.{Pending, new_message}
-use Rattle.resend_queue.specs.Slot.{messages}
+use Rattle.resend_queue.specs.Inside.{messages}
 use Rattle.resend_queue.specs.Inside.{IsKept}
 use Rattle.resend_queue.proofs.SlotLemmas.{after_put-inserted, IsKept-next}
 use Rattle.resend_queue.proofs.queue.Queue.put.Goals as goal
@@ -26,7 +26,7 @@ invariant_of-self c =
     let inside = c.self.inside in
     record {
       ordered = c.in-Ok.ensures.ordered;
-      numbers = let n = sound.numbers in let differs = c.if-self-eq-MAX_MESSAGES.false in
+      numbers = let n = sound.numbers in let differs = c.if-self.false in
           omega arith;
       kept = rw (inserted c)
           (All-push (IsKept (inside.next + 1)) (messages inside.slots)

@@ -1,6 +1,6 @@
 use Rattle.std.proofs.lemmas.List.Elements.{All-map, All-weaker}
 use Rattle.resend_queue.specs.Queue.{unsent}
-use Rattle.resend_queue.specs.Slot.{messages}
+use Rattle.resend_queue.specs.Inside.{messages}
 use Rattle.resend_queue.specs.Inside.{IsKept}
 use Rattle.resend_queue.proofs.queue.Queue.reopen.Goals as goal
 

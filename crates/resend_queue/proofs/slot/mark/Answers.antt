@@ -1,8 +1,8 @@
 use Rattle.std.proofs.Common.{ap, sym, ◌∙◌, map, refl, true}
 use Rattle.resend_queue.specs.Queue.{marked}
-use Rattle.resend_queue.specs.Slot.{pending_of}
+use Rattle.resend_queue.specs.Inside.{pending_of}
 use Rattle.resend_queue.proofs.SlotLemmas.{set_value-messages, absent-messages}
-use Rattle.resend_queue.proofs.slots.mark.Goals as goal
+use Rattle.resend_queue.proofs.slot.mark.Goals as goal
 
 pub returns-in-Some-clause-changed : goal.returns-in-Some-clause-changed
 returns-in-Some-clause-changed c =

@@ -1,8 +1,8 @@
 use Rattle.std.proofs.Common.{ap, sym, ◌∙◌, map, refl, Some, true, false}
 use Rattle.resend_queue.specs.Queue.{transmitted}
-use Rattle.resend_queue.specs.Slot.{pending_of}
+use Rattle.resend_queue.specs.Inside.{pending_of}
 use Rattle.resend_queue.proofs.SlotLemmas.{set_value-messages, absent-messages}
-use Rattle.resend_queue.proofs.slots.transmit.Goals as goal
+use Rattle.resend_queue.proofs.slot.transmit.Goals as goal
 
 pub returns-in-Some-clause-changed : goal.returns-in-Some-clause-changed
 returns-in-Some-clause-changed c =
