@@ -33,32 +33,40 @@ pub past_short : (bytes : List ℕ) → 120 ≤ length bytes → IsFaultlessBelo
 past_short bytes long (Short have) has = absurd (omega (arith, has.0, has.1))
 past_short bytes long fault has = omega arith
 
-pub past_header_length : (bytes : List ℕ) → IsFaultlessBelow 2 bytes → header_length bytes ≡ 116 → IsFaultlessBelow 3 bytes
+pub past_header_length : (bytes : List ℕ) → IsFaultlessBelow 2 bytes → header_length bytes ≡ 116
+    → IsFaultlessBelow 3 bytes
 past_header_length bytes below is (HeaderLength said) has = absurd (has.1 (has.0 ∙ is))
 past_header_length bytes below is fault has = omega (arith, below fault has)
 
-pub past_name : (bytes : List ℕ) → IsFaultlessBelow 3 bytes → ((place : ℕ) → ¬ IsWrongAt (name_field bytes) place) → IsFaultlessBelow 4 bytes
+pub past_name : (bytes : List ℕ) → IsFaultlessBelow 3 bytes
+    → ((place : ℕ) → ¬ IsWrongAt (name_field bytes) place) → IsFaultlessBelow 4 bytes
 past_name bytes below right (Name at) has = absurd (right has.0 has.2)
 past_name bytes below right fault has = omega (arith, below fault has)
 
-pub past_length : (bytes : List ℕ) → IsFaultlessBelow 4 bytes → payload_length bytes ≡ length (payload_in bytes) → IsFaultlessBelow 5 bytes
+pub past_length : (bytes : List ℕ) → IsFaultlessBelow 4 bytes
+    → payload_length bytes ≡ length (payload_in bytes) → IsFaultlessBelow 5 bytes
 past_length bytes below is (Length said have) has = absurd (has.2 (has.0 ∙ is ∙ sym has.1))
 past_length bytes below is fault has = omega (arith, below fault has)
 
-pub past_size : (bytes : List ℕ) → IsFaultlessBelow 5 bytes → payload_length bytes ≤ 65536 → IsFaultlessBelow 6 bytes
+pub past_size : (bytes : List ℕ) → IsFaultlessBelow 5 bytes → payload_length bytes ≤ 65536
+    → IsFaultlessBelow 6 bytes
 past_size bytes below fits (TooLong said) has = absurd (omega (arith, has.0, has.1))
 past_size bytes below fits fault has = omega (arith, below fault has)
 
-pub past_date : (bytes : List ℕ) → IsFaultlessBelow 6 bytes → (0 < number_at w64 40 bytes) ⊎ IsPublication (name_of (name_field bytes)) → IsFaultlessBelow 7 bytes
+pub past_date : (bytes : List ℕ) → IsFaultlessBelow 6 bytes → (0 < number_at w64 40 bytes)
+    ⊎ IsPublication (name_of (name_field bytes)) → IsFaultlessBelow 7 bytes
 past_date bytes below (inl dated) Date has = absurd (omega (arith, has.0))
 past_date bytes below (inr publication) Date has = absurd (has.1 publication)
 past_date bytes below dated fault has = omega (arith, below fault has)
 
 pub past_digest : (bytes : List ℕ) → IsFaultlessBelow 7 bytes
-    → (digest_field bytes ≡ sha256 (payload_in bytes)) ⊎ (payload_in bytes ≡ []) ⊎ IsPublication (name_of (name_field bytes)) → IsFaultlessBelow 8 bytes
-past_digest bytes below (inl same) (Digest said computed) has = absurd (has.2 (has.0 ∙ same ∙ sym has.1))
+    → (digest_field bytes ≡ sha256 (payload_in bytes)) ⊎ (payload_in bytes ≡ [])
+    ⊎ IsPublication (name_of (name_field bytes)) → IsFaultlessBelow 8 bytes
+past_digest bytes below (inl same) (Digest said computed) has =
+    absurd (has.2 (has.0 ∙ same ∙ sym has.1))
 past_digest bytes below (inr (inl empty)) (Digest said computed) has = absurd (has.3 empty)
-past_digest bytes below (inr (inr publication)) (Digest said computed) has = absurd (has.4 publication)
+past_digest bytes below (inr (inr publication)) (Digest said computed) has =
+    absurd (has.4 publication)
 past_digest bytes below sound fault has = omega (arith, below fault has)
 
 -- ---- what is left where no test failed
@@ -82,25 +90,33 @@ pub same_or_not : (xs ys : List ℕ) → (xs ≡ ys) ⊎ (xs ≢ ys)
 same_or_not xs ys = decided (bytes_eq xs ys) (bytes_eq-Decides xs ys)
 
 -- what `!=` tells of two digests
-pub digests_differ : (said computed : List ℕ) (differ : Bool) → differ ≡ not (bytes_eq said computed) → differ ≡ true → said ≢ computed
+pub digests_differ : (said computed : List ℕ) (differ : Bool)
+    → differ ≡ not (bytes_eq said computed) → differ ≡ true → said ≢ computed
 digests_differ said computed differ told is_so same =
     let equal : bytes_eq said computed ≡ true = (bytes_eq-Decides said computed).1 same in
     let is_not : differ ≡ false = told ∙ ap not equal in
     absurd cc
 
-pub digests_agree : (said computed : List ℕ) (differ : Bool) → differ ≡ not (bytes_eq said computed) → differ ≡ false → said ≡ computed
+pub digests_agree : (said computed : List ℕ) (differ : Bool) → differ ≡ not (bytes_eq said computed)
+    → differ ≡ false → said ≡ computed
 digests_agree said computed differ told is_not =
     elim (same_or_not said computed) [
       | inl same ↦ same
-      | inr differs ↦ absurd (differs ((bytes_eq-Decides said computed).0 (equal_where_not (bytes_eq said computed) (sym told ∙ is_not))))
+      | inr differs ↦ absurd
+          (differs ((bytes_eq-Decides said computed).0
+          (equal_where_not (bytes_eq said computed) (sym told ∙ is_not))))
     ]
 
 -- what `is_empty` tells of the payload
-pub payload_is_empty : (bytes : List ℕ) (empty : Bool) → empty ≡ eqb (length (take (length bytes - 120) (drop 120 bytes))) 0 → empty ≡ true → payload_in bytes ≡ []
+pub payload_is_empty : (bytes : List ℕ) (empty : Bool)
+    → empty ≡ eqb (length (take (length bytes - 120) (drop 120 bytes))) 0 → empty ≡ true
+    → payload_in bytes ≡ []
 payload_is_empty bytes empty told is_so =
     sym (rest_is bytes) ∙ nil_from_length _ (eqb-true _ 0 (sym told ∙ is_so))
 
-pub payload_is_not_empty : (bytes : List ℕ) (empty : Bool) → empty ≡ eqb (length (take (length bytes - 120) (drop 120 bytes))) 0 → empty ≡ false → payload_in bytes ≢ []
+pub payload_is_not_empty : (bytes : List ℕ) (empty : Bool)
+    → empty ≡ eqb (length (take (length bytes - 120) (drop 120 bytes))) 0 → empty ≡ false
+    → payload_in bytes ≢ []
 payload_is_not_empty bytes empty told is_not none =
     let is_so : empty ≡ true = told ∙ eq-eqb _ 0 (ap length (rest_is bytes ∙ none)) in
     absurd cc
@@ -112,14 +128,23 @@ publication_or_not name =
       | inl start ↦ inl (inl start)
       | inr no_start ↦ elim (same_or_not name (codes "pause_publication")) [
         | inl pause ↦ inl (inr pause)
-        | inr no_pause ↦ inr (λ p. elim p [ inl start ↦ no_start start | inr pause ↦ no_pause pause ])
+        | inr no_pause ↦ inr
+            (λ p. elim p [ inl start ↦ no_start start | inr pause ↦ no_pause pause ])
       ]
     ]
 
 -- a part of the front and all that is behind it are the list
-all_of_it : (xs : List ℕ) (n m k : ℕ) → k ≡ n → length xs ≤ length (take n xs ++ take m (drop k xs)) → take n xs ++ take m (drop k xs) ≡ xs
+all_of_it : (xs : List ℕ) (n m k : ℕ) → k ≡ n → length xs ≤ length (take n xs ++ take m (drop k xs))
+    → take n xs ++ take m (drop k xs) ≡ xs
 all_of_it xs n m k same enough =
-    let behind : length (drop k xs) ≤ m = omega (arith, length-append (take n xs) (take m (drop k xs)), length-take n xs, length-take m (drop k xs), length-drop k xs) in
+    let behind : length (drop k xs) ≤ m =
+    omega (
+      arith,
+      length-append (take n xs) (take m (drop k xs)),
+      length-take n xs,
+      length-take m (drop k xs),
+      length-drop k xs,
+    ) in
     rw (take_all m (drop k xs) behind, same) (take-append-drop n xs)
 
 -- a field that is wrong nowhere is a name and filler
@@ -136,11 +161,14 @@ right_field field long right =
     elim (cases_lt (length (name_of field ++ filler_of field)) 32) [
       | inl less ↦ absurd (right _ (inr (named, refl, omega arith)))
       | inr no_less ↦ no_less
-    ] in
-    (IsName-name_of field (omega arith) some, all_of_it field _ _ _ (length-prefix_len is_name_byte field) (omega (arith, whole)))
+    ] in (
+      IsName-name_of field (omega arith) some,
+      all_of_it field _ _ _ (length-prefix_len is_name_byte field) (omega (arith, whole)),
+    )
 
 -- bytes of which no test failed spell the message that their fields hold
-pub accepted : (bytes : List ℕ) → IsBytes bytes → IsFaultlessBelow 8 bytes → Decodes bytes (Ok (message_in bytes))
+pub accepted : (bytes : List ℕ) → IsBytes bytes → IsFaultlessBelow 8 bytes
+    → Decodes bytes (Ok (message_in bytes))
 accepted bytes fits faultless =
     let long : 120 ≤ length bytes =
     elim (cases_lt (length bytes) 120) [
@@ -150,14 +178,20 @@ accepted bytes fits faultless =
     let header : header_length bytes ≡ 116 =
     elim (cases_eq (header_length bytes) 116) [
       | inl same ↦ same
-      | inr other ↦ absurd (omega (arith, faultless (HeaderLength (header_length bytes)) (refl, other)))
+      | inr other ↦ absurd
+          (omega (arith, faultless (HeaderLength (header_length bytes)) (refl, other)))
     ] in
     let field = right_field (name_field bytes) (length-part bytes 4 32 (omega arith))
     (λ place wrong. absurd (omega (arith, faultless (Name (4 + place)) (place, refl, wrong)))) in
     let whole : payload_length bytes ≡ length (payload_in bytes) =
     elim (cases_eq (payload_length bytes) (length (payload_in bytes))) [
       | inl same ↦ same
-      | inr other ↦ absurd (omega (arith, faultless (Length (payload_length bytes) (length (payload_in bytes))) (refl, refl, other)))
+      | inr other ↦ absurd
+          (omega (
+            arith,
+            faultless (Length (payload_length bytes) (length (payload_in bytes)))
+                (refl, refl, other),
+          ))
     ] in
     let sized : length (payload_in bytes) ≤ 65536 =
     elim (cases_lt 65536 (payload_length bytes)) [
@@ -172,34 +206,53 @@ accepted bytes fits faultless =
         | inr none ↦ absurd (omega (arith, faultless Date (omega arith, other)))
       ]
     ] in
-    let hashed : (digest_field bytes ≡ sha256 (payload_in bytes)) ⊎ (payload_in bytes ≡ []) ⊎ IsPublication (name_of (name_field bytes)) =
+    let hashed : (digest_field bytes ≡ sha256 (payload_in bytes)) ⊎ (payload_in bytes ≡ [])
+    ⊎ IsPublication (name_of (name_field bytes)) =
     elim (publication_or_not (name_of (name_field bytes))) [
       | inl publication ↦ inr (inr publication)
       | inr other ↦ elim (same_or_not (payload_in bytes) []) [
         | inl empty ↦ inr (inl empty)
         | inr some ↦ elim (same_or_not (digest_field bytes) (sha256 (payload_in bytes))) [
           | inl same ↦ inl same
-          | inr differs ↦ absurd (omega (arith, faultless (Digest (digest_field bytes) (sha256 (payload_in bytes))) (refl, refl, differs, some, other)))
+          | inr differs ↦ absurd
+              (omega (
+                arith,
+                faultless (Digest (digest_field bytes) (sha256 (payload_in bytes)))
+                    (refl, refl, differs, some, other),
+              ))
         ]
       ]
-    ] in
-    (Spells-message_in bytes fits long header field.0 field.1 whole, record { sized = sized; dated = dated; hashed = hashed })
+    ] in (
+      Spells-message_in bytes fits long header field.0 field.1 whole,
+      record { sized = sized; dated = dated; hashed = hashed },
+    )
 
 -- ---- a sound spelling has no fault
 
 -- a field of a name and filler is wrong nowhere
-right_spelling : (field name filler : List ℕ) → field ≡ name ++ filler → IsName name → IsTrue (list_all is_filler_byte filler)
+right_spelling : (field name filler : List ℕ) → field ≡ name ++ filler → IsName name
+    → IsTrue (list_all is_filler_byte filler)
     → (place : ℕ) → ¬ IsWrongAt field place
 right_spelling field name filler is valid fills place wrong =
     let named : name_of field ≡ name = rw is (name_of-append name filler valid.2 fills) in
     let filled : filler_of field ≡ filler = rw is (filler_of-append name filler valid.2 fills) in
     elim wrong [
       | inl none ↦ omega (arith, valid.0, ap length (sym named ∙ none.0))
-      | inr later ↦ omega (arith, later.1, later.2, ap length is, ap length named, ap length filled, length-append (name_of field) (filler_of field), length-append name filler)
+      | inr later ↦ omega (
+        arith,
+        later.1,
+        later.2,
+        ap length is,
+        ap length named,
+        ap length filled,
+        length-append (name_of field) (filler_of field),
+        length-append name filler,
+      )
     ]
 
 -- a dated message has a date
-dated_spelling : (m : Message) (date : ℕ) (name : List ℕ) → m.date ≡ date → m.name ≡ name → (0 < m.date) ⊎ IsPublication m.name
+dated_spelling : (m : Message) (date : ℕ) (name : List ℕ) → m.date ≡ date → m.name ≡ name
+    → (0 < m.date) ⊎ IsPublication m.name
     → (date ≡ 0) × ¬ IsPublication name → ⊥
 dated_spelling m date name is named dated has =
     elim dated [
@@ -208,9 +261,11 @@ dated_spelling m date name is named dated has =
     ]
 
 -- a hashed message has the digest of its payload
-hashed_spelling : (m : Message) (digest name payload said computed : List ℕ) → m.name ≡ name → m.payload ≡ payload
+hashed_spelling : (m : Message) (digest name payload said computed : List ℕ) → m.name ≡ name
+    → m.payload ≡ payload
     → (digest ≡ sha256 m.payload) ⊎ (m.payload ≡ []) ⊎ IsPublication m.name
-    → (said ≡ digest) × (computed ≡ sha256 payload) × (said ≢ computed) × (payload ≢ []) × ¬ IsPublication name → ⊥
+    → (said ≡ digest) × (computed ≡ sha256 payload) × (said ≢ computed) × (payload ≢ [])
+    × ¬ IsPublication name → ⊥
 hashed_spelling m digest name payload said computed named held hashed has =
     elim hashed [
       | inl same ↦ has.2 (has.0 ∙ same ∙ ap sha256 held ∙ sym has.1)
@@ -222,21 +277,30 @@ hashed_spelling m digest name payload said computed named held hashed has =
 
 -- the length that is said of the payload is its length
 said_is : (m : Message) (bytes : List ℕ) → Spells m bytes → payload_length bytes ≡ length m.payload
-said_is m bytes s = ap (from_be_bytes w32) (spelled_parts m bytes s).size ∙ from_be_bytes-to_be_bytes_4 (length m.payload) s.sized
+said_is m bytes s = ap (from_be_bytes w32) (spelled_parts m bytes s).size
+    ∙ from_be_bytes-to_be_bytes_4 (length m.payload) s.sized
 
 -- the bytes of a sound message have no fault
-pub sound_has_no_fault : (m : Message) (bytes : List ℕ) → Spells m bytes → IsSound m bytes → (fault : Refusal) → HasFault bytes fault → ⊥
-sound_has_no_fault m bytes s sound (Short have) has = omega (arith, has.0, has.1, (spelled_parts m bytes s).long)
-sound_has_no_fault m bytes s sound (HeaderLength said) has = has.1 (has.0 ∙ ap (from_be_bytes w32) (spelled_parts m bytes s).header)
+pub sound_has_no_fault : (m : Message) (bytes : List ℕ) → Spells m bytes → IsSound m bytes
+    → (fault : Refusal) → HasFault bytes fault → ⊥
+sound_has_no_fault m bytes s sound (Short have) has =
+    omega (arith, has.0, has.1, (spelled_parts m bytes s).long)
+sound_has_no_fault m bytes s sound (HeaderLength said) has =
+    has.1 (has.0 ∙ ap (from_be_bytes w32) (spelled_parts m bytes s).header)
 sound_has_no_fault m bytes s sound (Name at) has =
-    right_spelling (name_field bytes) m.name s.filler (spelled_parts m bytes s).name s.message.name s.fills has.0 has.2
+    right_spelling (name_field bytes) m.name s.filler (spelled_parts m bytes s).name s.message.name
+    s.fills has.0 has.2
 sound_has_no_fault m bytes s sound (Length said have) has =
-    has.2 (has.0 ∙ said_is m bytes s ∙ sym (ap length (spelled_parts m bytes s).payload) ∙ sym has.1)
-sound_has_no_fault m bytes s sound (TooLong said) has = omega (arith, has.0, has.1, said_is m bytes s, sound.sized)
+    has.2 (has.0 ∙ said_is m bytes s ∙ sym (ap length (spelled_parts m bytes s).payload)
+    ∙ sym has.1)
+sound_has_no_fault m bytes s sound (TooLong said) has =
+    omega (arith, has.0, has.1, said_is m bytes s, sound.sized)
 sound_has_no_fault m bytes s sound Date has =
-    dated_spelling m _ _ (ap (λ n. n.date) (only_message m bytes s)) (ap (λ n. n.name) (only_message m bytes s)) sound.dated has
+    dated_spelling m _ _ (ap (λ n. n.date) (only_message m bytes s))
+    (ap (λ n. n.name) (only_message m bytes s)) sound.dated has
 sound_has_no_fault m bytes s sound (Digest said computed) has =
-    hashed_spelling m _ _ _ said computed (ap (λ n. n.name) (only_message m bytes s)) (ap (λ n. n.payload) (only_message m bytes s)) sound.hashed has
+    hashed_spelling m _ _ _ said computed (ap (λ n. n.name) (only_message m bytes s))
+    (ap (λ n. n.payload) (only_message m bytes s)) sound.hashed has
 sound_has_no_fault m bytes s sound NoMemory has = has
 
 -- ---- one answer
@@ -249,28 +313,36 @@ one_place field a b (inr some) (inl none) = absurd (some.0 none.0)
 one_place field a b (inr some) (inr some') = some.1 ∙ sym some'.1
 
 -- faults with one number are one fault
-one_fault : (bytes : List ℕ) (a b : Refusal) → HasFault bytes a → HasFault bytes b → number_of a ≡ number_of b → a ≡ b
+one_fault : (bytes : List ℕ) (a b : Refusal) → HasFault bytes a → HasFault bytes b
+    → number_of a ≡ number_of b → a ≡ b
 one_fault bytes (Short have) (Short have') p q same = ap Short (p.0 ∙ sym q.0)
 one_fault bytes (HeaderLength said) (HeaderLength said') p q same = ap HeaderLength (p.0 ∙ sym q.0)
-one_fault bytes (Name at) (Name at') p q same = ap Name (p.1 ∙ ap (λ place. 4 + place) (one_place (name_field bytes) p.0 q.0 p.2 q.2) ∙ sym q.1)
-one_fault bytes (Length said have) (Length said' have') p q same = ap (λ n. Length n have) (p.0 ∙ sym q.0) ∙ ap (Length said') (p.1 ∙ sym q.1)
+one_fault bytes (Name at) (Name at') p q same =
+    ap Name (p.1 ∙ ap (λ place. 4 + place) (one_place (name_field bytes) p.0 q.0 p.2 q.2) ∙ sym q.1)
+one_fault bytes (Length said have) (Length said' have') p q same =
+    ap (λ n. Length n have) (p.0 ∙ sym q.0) ∙ ap (Length said') (p.1 ∙ sym q.1)
 one_fault bytes (TooLong said) (TooLong said') p q same = ap TooLong (p.0 ∙ sym q.0)
 one_fault bytes Date Date p q same = refl
-one_fault bytes (Digest said computed) (Digest said' computed') p q same = ap (λ d. Digest d computed) (p.0 ∙ sym q.0) ∙ ap (Digest said') (p.1 ∙ sym q.1)
+one_fault bytes (Digest said computed) (Digest said' computed') p q same =
+    ap (λ d. Digest d computed) (p.0 ∙ sym q.0) ∙ ap (Digest said') (p.1 ∙ sym q.1)
 one_fault bytes NoMemory b p q same = absurd p
 one_fault bytes a b p q same = absurd (omega (arith, same))
 
 -- bytes have one answer at most
-pub one_answer : (bytes : List ℕ) (a b : Result Message Refusal) → Decodes bytes a → Decodes bytes b → a ≡ b
-one_answer bytes (Ok m) (Ok n) p q = ap Ok (only_message m bytes p.0 ∙ sym (only_message n bytes q.0))
+pub one_answer : (bytes : List ℕ) (a b : Result Message Refusal) → Decodes bytes a → Decodes bytes b
+    → a ≡ b
+one_answer bytes (Ok m) (Ok n) p q =
+    ap Ok (only_message m bytes p.0 ∙ sym (only_message n bytes q.0))
 one_answer bytes (Ok m) (Err f) p q = absurd (sound_has_no_fault m bytes p.0 p.1 f q.0)
 one_answer bytes (Err e) (Ok n) p q = absurd (sound_has_no_fault n bytes q.0 q.1 e p.0)
-one_answer bytes (Err e) (Err f) p q = ap Err (one_fault bytes e f p.0 q.0 (omega (arith, p.1 f q.0, q.1 e p.0)))
+one_answer bytes (Err e) (Err f) p q =
+    ap Err (one_fault bytes e f p.0 q.0 (omega (arith, p.1 f q.0, q.1 e p.0)))
 
 -- ---- what a call answers
 
 -- a call that read the message of the fields has read the message
-pub reads : (r : Result Message Refusal) (bytes : List ℕ) → Decodes bytes (Ok (message_in bytes)) → IfOk r (λ m. m ≡ message_in bytes)
+pub reads : (r : Result Message Refusal) (bytes : List ℕ) → Decodes bytes (Ok (message_in bytes))
+    → IfOk r (λ m. m ≡ message_in bytes)
     → IfOk r (λ m. Decodes bytes (Ok m))
 reads (Ok m) bytes decodes is = subst (λ n. Decodes bytes (Ok n)) (sym is) decodes
 reads (Err e) bytes decodes is = tt
@@ -290,4 +362,6 @@ answers (Err e) bytes read refused answer decodes =
 pub again : (r : Result Message Refusal) (bytes : List ℕ)
     → ((answer : Result Message Refusal) → Decodes bytes answer → (r ≡ answer) ⊎ (r ≡ Err NoMemory))
     → (m : Message) → IsEncodable m → bytes ≡ canonical m → (r ≡ Ok m) ⊎ (r ≡ Err NoMemory)
-again r bytes only m can is = only (Ok m) (subst (λ (written : List ℕ). Decodes written (Ok m)) (sym is) (Decodes-canonical m can))
+again r bytes only m can is =
+    only (Ok m) (subst (λ (written : List ℕ). Decodes written (Ok m)) (sym is)
+    (Decodes-canonical m can))

@@ -31,16 +31,29 @@ content_answer : (bytes : List ℕ) → IsBytes bytes → IsFaultlessBelow 6 byt
 content_answer bytes fits below =
     let name = name_of (name_field bytes) in
     elim (publication_or_not name) [
-      | inl publication ↦ (Ok (message_in bytes), accepted bytes fits (past_digest bytes (past_date bytes below (inr publication)) (inr (inr publication))))
+      | inl publication ↦ (
+        Ok (message_in bytes),
+        accepted bytes fits (past_digest bytes (past_date bytes below (inr publication))
+            (inr (inr publication))),
+      )
       | inr other ↦ elim (cases_lt 0 (number_at w64 40 bytes)) [
         | inr none ↦ (Err Date, ((omega arith, other), below))
         | inl some ↦
             let dated = past_date bytes below (inl some) in
             elim (same_or_not (payload_in bytes) []) [
-              | inl empty ↦ (Ok (message_in bytes), accepted bytes fits (past_digest bytes dated (inr (inl empty))))
+              | inl empty ↦ (
+                Ok (message_in bytes),
+                accepted bytes fits (past_digest bytes dated (inr (inl empty))),
+              )
               | inr full ↦ elim (same_or_not (digest_field bytes) (sha256 (payload_in bytes))) [
-                | inl same ↦ (Ok (message_in bytes), accepted bytes fits (past_digest bytes dated (inl same)))
-                | inr differ ↦ (Err (Digest (digest_field bytes) (sha256 (payload_in bytes))), ((refl, refl, differ, full, other), dated))
+                | inl same ↦ (
+                  Ok (message_in bytes),
+                  accepted bytes fits (past_digest bytes dated (inl same)),
+                )
+                | inr differ ↦ (
+                  Err (Digest (digest_field bytes) (sha256 (payload_in bytes))),
+                  ((refl, refl, differ, full, other), dated),
+                )
               ]
             ]
       ]
@@ -50,7 +63,10 @@ content_answer bytes fits below =
 length_answer : (bytes : List ℕ) → IsBytes bytes → IsFaultlessBelow 4 bytes → Answered bytes
 length_answer bytes fits below =
     elim (cases_eq (payload_length bytes) (length (payload_in bytes))) [
-      | inr other ↦ (Err (Length (payload_length bytes) (length (payload_in bytes))), ((refl, refl, other), below))
+      | inr other ↦ (
+        Err (Length (payload_length bytes) (length (payload_in bytes))),
+        ((refl, refl, other), below),
+      )
       | inl whole ↦
           let passed = past_length bytes below whole in
           elim (cases_lt 65536 (payload_length bytes)) [
@@ -60,7 +76,8 @@ length_answer bytes fits below =
     ]
 
 -- a field is wrong somewhere or nowhere
-wrong_or_right : (field : List ℕ) → ((place : ℕ) × IsWrongAt field place) ⊎ ((place : ℕ) → ¬ IsWrongAt field place)
+wrong_or_right : (field : List ℕ) → ((place : ℕ) × IsWrongAt field place)
+    ⊎ ((place : ℕ) → ¬ IsWrongAt field place)
 wrong_or_right field =
     elim (same_or_not (name_of field) []) [
       | inl none ↦ inl (0, inl (none, refl))
@@ -74,12 +91,16 @@ wrong_or_right field =
     ]
 
 -- all the tests
-pub an_answer : (bytes : List ℕ) → IsBytes bytes → (answer : Result Message Refusal) × Decodes bytes answer
+pub an_answer : (bytes : List ℕ) → IsBytes bytes → (answer : Result Message Refusal)
+    × Decodes bytes answer
 an_answer bytes fits =
     elim (cases_lt (length bytes) 120) [
       | inl less ↦ (Err (Short (length bytes)), ((refl, less), first_test bytes))
       | inr long ↦ elim (cases_eq (header_length bytes) 116) [
-        | inr other ↦ (Err (HeaderLength (header_length bytes)), ((refl, other), past_short bytes long))
+        | inr other ↦ (
+          Err (HeaderLength (header_length bytes)),
+          ((refl, other), past_short bytes long),
+        )
         | inl header ↦
             let passed = past_header_length bytes (past_short bytes long) header in
             elim (wrong_or_right (name_field bytes)) [

@@ -3,7 +3,8 @@ use Rattle.std.proofs.Common.{◌≡◌, ℕ, ◌+◌, ◌-◌, ◌≤◌, List,
 use Rattle.std.proofs.lemmas.List.{take_at, drop_at, drop-drop, take-append-drop}
 
 -- the twelve parts side by side
-abbrev pub joined : List ℕ → List ℕ → List ℕ → List ℕ → List ℕ → List ℕ → List ℕ → List ℕ → List ℕ → List ℕ → List ℕ → List ℕ → List ℕ
+abbrev pub joined : List ℕ → List ℕ → List ℕ → List ℕ → List ℕ → List ℕ → List ℕ → List ℕ → List ℕ
+    → List ℕ → List ℕ → List ℕ → List ℕ
 joined a b c d e f g h i j k l = a ++ b ++ c ++ d ++ e ++ f ++ g ++ h ++ i ++ j ++ k ++ l
 
 -- each part but the last is as long as its field
@@ -40,14 +41,18 @@ pub record StandIn (bytes a b c d e f g h i j k l : List ℕ) : Type 0 where
 next : (bytes part rest : List ℕ) (at n : ℕ) → drop at bytes ≡ part ++ rest → length part ≡ n
     → (slice_range bytes at (at + n) ≡ part) × (drop (at + n) bytes ≡ rest)
 next bytes part rest at n left len =
-    let size : at + n - at ≡ n = omega arith in
-    (rw (size, left) (take_at part rest n len), sym (drop-drop n at bytes) ∙ rw left (drop_at part rest n len))
+    let size : at + n - at ≡ n = omega arith in (
+      rw (size, left) (take_at part rest n len),
+      sym (drop-drop n at bytes)
+          ∙ rw left (drop_at part rest n len),
+    )
 
 -- parts side by side stand at their offsets
 pub stand : (bytes a b c d e f g h i j k l : List ℕ) → AreFields a b c d e f g h i j k
     → bytes ≡ joined a b c d e f g h i j k l → StandIn bytes a b c d e f g h i j k l
 stand bytes a b c d e f g h i j k l are is =
-    let r : bytes ≡ a ++ (b ++ (c ++ (d ++ (e ++ (f ++ (g ++ (h ++ (i ++ (j ++ (k ++ l)))))))))) = is ∙ simp append_assoc in
+    let r : bytes ≡ a ++ (b ++ (c ++ (d ++ (e ++ (f ++ (g ++ (h ++ (i ++ (j ++ (k ++ l)))))))))) =
+    is ∙ simp append_assoc in
     let pa = next bytes a _ 0 4 r are.header in
     let pb = next bytes b _ 4 32 pa.1 are.name in
     let pc = next bytes c _ 36 4 pb.1 are.schema in
@@ -76,25 +81,38 @@ stand bytes a b c d e f g h i j k l are is =
     }
 
 -- a list is a part and what is left behind it
-part : (bytes : List ℕ) (at n : ℕ) → drop at bytes ≡ slice_range bytes at (at + n) ++ drop (at + n) bytes
+part : (bytes : List ℕ) (at n : ℕ)
+    → drop at bytes ≡ slice_range bytes at (at + n) ++ drop (at + n) bytes
 part bytes at n =
     let size : at + n - at ≡ n = omega arith in
-    rw size (sym (take-append-drop n (drop at bytes)) ∙ ap (λ r. take n (drop at bytes) ++ r) (drop-drop n at bytes))
+    rw size (sym (take-append-drop n (drop at bytes))
+    ∙ ap (λ r. take n (drop at bytes) ++ r) (drop-drop n at bytes))
 
 -- a list is its parts side by side
-pub parts : (bytes : List ℕ) → bytes ≡ joined (slice_range bytes 0 4) (slice_range bytes 4 36) (slice_range bytes 36 40) (slice_range bytes 40 48) (slice_range bytes 48 56) (slice_range bytes 56 64) (slice_range bytes 64 72) (slice_range bytes 72 80) (slice_range bytes 80 112) (slice_range bytes 112 116) (slice_range bytes 116 120) (drop 120 bytes)
+pub parts : (bytes : List ℕ)
+    → bytes ≡ joined (slice_range bytes 0 4) (slice_range bytes 4 36) (slice_range bytes 36 40)
+    (slice_range bytes 40 48) (slice_range bytes 48 56) (slice_range bytes 56 64)
+    (slice_range bytes 64 72) (slice_range bytes 72 80) (slice_range bytes 80 112)
+    (slice_range bytes 112 116) (slice_range bytes 116 120) (drop 120 bytes)
 parts bytes =
     let step = λ (at n : ℕ) (rest : List ℕ) (e : drop (at + n) bytes ≡ rest).
     part bytes at n ∙ ap (λ r. slice_range bytes at (at + n) ++ r) e in
-    let right = step 0 4 _ (step 4 32 _ (step 36 4 _ (step 40 8 _ (step 48 8 _ (step 56 8 _ (step 64 8 _ (step 72 8 _ (step 80 32 _ (step 112 4 _ (part bytes 116 4)))))))))) in
+    let right = step 0 4 _
+    (step 4 32 _ (step 36 4 _
+    (step 40 8 _ (step 48 8 _
+    (step 56 8 _ (step 64 8 _
+    (step 72 8 _ (step 80 32 _ (step 112 4 _ (part bytes 116 4)))))))))) in
     right ∙ sym (simp append_assoc)
 
 -- equal parts make equal lists
 pub same_parts : {a b c d e f g h i j k l a' b' c' d' e' f' g' h' i' j' k' l' : List ℕ}
-    → a ≡ a' → b ≡ b' → c ≡ c' → d ≡ d' → e ≡ e' → f ≡ f' → g ≡ g' → h ≡ h' → i ≡ i' → j ≡ j' → k ≡ k' → l ≡ l'
+    → a ≡ a' → b ≡ b' → c ≡ c' → d ≡ d' → e ≡ e' → f ≡ f' → g ≡ g' → h ≡ h' → i ≡ i' → j ≡ j'
+    → k ≡ k' → l ≡ l'
     → joined a b c d e f g h i j k l ≡ joined a' b' c' d' e' f' g' h' i' j' k' l'
 same_parts pa pb pc pd pe pf pg ph pi pj pk pl = cc
 
 -- a part is as long as its field, where the list goes so far
-pub length-part : (bytes : List ℕ) (at n : ℕ) → at + n ≤ length bytes → length (slice_range bytes at (at + n)) ≡ n
-length-part bytes at n within = omega (arith, length-take (at + n - at) (drop at bytes), length-drop at bytes)
+pub length-part : (bytes : List ℕ) (at n : ℕ) → at + n ≤ length bytes
+    → length (slice_range bytes at (at + n)) ≡ n
+length-part bytes at n within =
+    omega (arith, length-take (at + n - at) (drop at bytes), length-drop at bytes)

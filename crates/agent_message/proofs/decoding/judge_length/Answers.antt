@@ -4,10 +4,13 @@ use Rattle.agent_message.proofs.Faults.{past_length, past_size}
 use Rattle.agent_message.proofs.decoding.judge_length.Goals as goal
 
 pub returns-then-said-have-clause-refused : goal.returns-then-said-have-clause-refused
-returns-then-said-have-clause-refused c =
-    ((c.u32_at-said.ensures, sym (length-drop 120 c.args.bytes.now), c.if-said-have.true), c.requires.faultless)
+returns-then-said-have-clause-refused c = (
+  (c.u32_at-said.ensures, sym (length-drop 120 c.args.bytes.now), c.if-said-have.true),
+  c.requires.faultless,
+)
 
-pub returns-then-have-gt-MAX_PAYLOAD-clause-refused : goal.returns-then-have-gt-MAX_PAYLOAD-clause-refused
+pub returns-then-have-gt-MAX_PAYLOAD-clause-refused :
+    goal.returns-then-have-gt-MAX_PAYLOAD-clause-refused
 returns-then-have-gt-MAX_PAYLOAD-clause-refused c =
     let whole : payload_length c.args.bytes.now ≡ length (payload_in c.args.bytes.now) =
     sym c.u32_at-said.ensures ∙ c.if-said-have.false ∙ sym (length-drop 120 c.args.bytes.now) in
@@ -17,4 +20,5 @@ pub returns-clause-faultless : goal.returns-clause-faultless
 returns-clause-faultless c =
     let whole : payload_length c.args.bytes.now ≡ length (payload_in c.args.bytes.now) =
     sym c.u32_at-said.ensures ∙ c.if-said-have.false ∙ sym (length-drop 120 c.args.bytes.now) in
-    past_size c.args.bytes.now (past_length c.args.bytes.now c.requires.faultless whole) (omega (arith, length-drop 120 c.args.bytes.now, whole))
+    past_size c.args.bytes.now (past_length c.args.bytes.now c.requires.faultless whole)
+    (omega (arith, length-drop 120 c.args.bytes.now, whole))
