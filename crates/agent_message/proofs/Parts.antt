@@ -116,3 +116,9 @@ pub length-part : (bytes : List ℕ) (at n : ℕ) → at + n ≤ length bytes
     → length (slice_range bytes at (at + n)) ≡ n
 length-part bytes at n within =
     omega (arith, length-take (at + n - at) (drop at bytes), length-drop at bytes)
+
+-- a part that is put behind others which stand behind a list
+pub put_behind : (before parts part : List ℕ) {old new : List ℕ}
+    → old ≡ before ++ parts → new ≡ old ++ part → new ≡ before ++ (parts ++ part)
+put_behind before parts part are put =
+    put ∙ ap (λ bytes. bytes ++ part) are ∙ append_assoc before parts part

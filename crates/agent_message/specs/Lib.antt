@@ -1,5 +1,6 @@
 pub mod Decoding
 pub mod Fields
+pub mod Heads
 pub mod Layout
 pub mod Names
 pub mod Refusals

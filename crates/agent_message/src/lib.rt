@@ -11,8 +11,8 @@ mod refusal;
 
 pub use chan_values::{Item, Items, MAX_PAYLOAD};
 pub use decoding::decode;
-pub use encoding::encode;
-pub use message::Message;
+pub use encoding::{encode, encode_parts};
+pub use message::{Head, Message, Messages};
 pub use name::{MAX_NAME, Name};
 pub use refusal::Refusal;
 

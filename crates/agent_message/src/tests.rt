@@ -33,6 +33,28 @@ fn the_first_message_is_written(rt: HostRuntime) -> Result<(), Fail> {
 }
 
 #[test]
+fn an_id_is_written_with_its_second_half_first(rt: HostRuntime) -> Result<(), Fail> {
+    // 0a1b2c3d-4e5f-6071-8293-a4b5c6d7e8f9
+    let head = Head {
+        name: Name::input_stream_data(),
+        schema: 1,
+        date: 1,
+        seq: 0,
+        flags: 1,
+        id: *b"\x0a\x1b\x2c\x3d\x4e\x5f\x60\x71\x82\x93\xa4\xb5\xc6\xd7\xe8\xf9",
+        ptype: 1,
+    };
+    let bytes = encode_parts(rt.alloc(), &head, b"abc")?;
+    assert_eq!(rt; bytes.len(), 123);
+    let id = b"\x82\x93\xa4\xb5\xc6\xd7\xe8\xf9\x0a\x1b\x2c\x3d\x4e\x5f\x60\x71";
+    assert_eq!(rt; &bytes[64..80], id.as_slice());
+    assert_eq!(rt; &bytes[..64], &MESSAGE[..64]);
+    assert_eq!(rt; &bytes[80..], &MESSAGE[80..]);
+    assert_eq!(rt; decode(rt.alloc(), bytes.as_slice())?.id, head.id);
+    Ok(())
+}
+
+#[test]
 fn the_first_message_is_read(rt: HostRuntime) -> Result<(), Fail> {
     let message = decode(rt.alloc(), &MESSAGE)?;
     assert_eq!(rt; message.name, Name::input_stream_data());
