@@ -1,6 +1,6 @@
 //! The reader of frames.
 
-ghost use Rattle.std.specs.Prelude.{◌≡◌, ◌<◌, IfOk, OnOk, OnErr, [], ◌∷◌, ◌++◌, length};
+ghost use Rattle.std.specs.Prelude.{◌≡◌, ◌-◌, ◌≤◌, IfOk, OnOk, OnErr, [], ◌∷◌, ◌++◌, length};
 ghost use Rattle.std.specs.Option.{option_map};
 ghost use Rattle.smux_frames.specs.Reading.{beginning, frame_now, fault_now, pending_now, read_on};
 ghost use Rattle.smux_frames.specs.Coming.{absorbed, coming_of, missing};
@@ -82,10 +82,15 @@ impl FrameReader {
     {
         let mut reader = self.copy()?;
         let mut frames = Vec::new(self.alloc);
-        for byte in bytes {
-            if let Some(whole) = reader.push(*byte)? {
+        let mut at = 0;
+        while at < bytes.len() {
+            let data = reader.missing().saturating_sub(1).min(bytes.len() - at - 1);
+            reader.absorb(&bytes[at..at + data])?;
+            at += data;
+            if let Some(whole) = reader.push(bytes[at])? {
                 frames.push(whole)?;
             }
+            at += 1;
         }
         let fault = reader.fault;
         *self = reader;
@@ -147,6 +152,24 @@ impl FrameReader {
         }
     }
 
+    /// Takes one byte. The frame that is whole with it is passed over, which takes no memory.
+    pub fn skip(&mut self, byte: u8) -> Result<(), NoMemory>
+        ensures pending { OnOk result (self.new ≡ pending_now self.old byte) }
+        ensures err { OnErr result (self.new ≡ self.old) }
+    {
+        if let Some(shown) = self.fault_with(byte) {
+            self.fault = Some(shown);
+            return Ok(());
+        }
+        if parse::coming(self.rest.as_slice(), byte).is_none() {
+            self.rest.push(byte)?;
+            return Ok(());
+        }
+        self.start = self.start.saturating_add(self.rest.len() as u64 + 1);
+        self.rest.clear();
+        Ok(())
+    }
+
     /// How many bytes of data the frame that is coming lacks; 0 where its header is not whole yet.
     pub fn missing(&self) -> usize
         ensures { result ≡ missing self.now }
@@ -159,7 +182,7 @@ impl FrameReader {
 
     /// Takes bytes at once that are data of the frame that is coming, but not its last.
     pub fn absorb(&mut self, bytes: &[u8]) -> Result<(), NoMemory>
-        requires { length bytes.now < missing self.old }
+        requires { length bytes.now ≤ missing self.old - 1 }
         ensures ok { OnOk result (self.new ≡ absorbed self.old bytes.now) }
         ensures err { OnErr result (self.new ≡ self.old) }
     {

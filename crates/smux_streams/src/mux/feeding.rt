@@ -12,7 +12,7 @@ ghost use Rattle.smux_store.specs.Streams.{undone};
 ghost use Rattle.smux_streams.specs.Call.{Feeds};
 ghost use Rattle.smux_streams.specs.Stands.{MuxState, Follows};
 ghost use Rattle.smux_store.specs.Kept.{is_above};
-ghost use Rattle.smux_streams.specs.Steps.{IsWhole, KeepsFault, LeadsBack, PartGoes, Passes, Restores, Runs, moved};
+ghost use Rattle.smux_streams.specs.Steps.{Absorbs, IsWhole, KeepsFault, LeadsBack, PartGoes, Passes, Restores, Runs, moved};
 
 use super::{MAX_HELD, MAX_STREAMS, Mux};
 use crate::fed::Fed;
@@ -117,12 +117,27 @@ impl Mux {
             Runs self.old self.new bytes.now trail.new.events.items count) }
         ensures back { OnErr result (LeadsBack self.old self.new [] trail.new.steps.items) }
     {
-        for (i, byte) in bytes.iter().enumerate() {
-            if !self.byte(*byte, trail)? {
-                return Ok(i);
+        let mut place = 0;
+        while place < bytes.len() {
+            place += self.absorb(&bytes[place..])?;
+            if !self.byte(bytes[place], trail)? {
+                return Ok(place);
             }
+            place += 1;
         }
         Ok(bytes.len())
+    }
+
+    /// Takes data of the coming frame at once, but neither the last byte of the frame nor that of the
+    /// piece, and tells how many bytes it took.
+    fn absorb(&mut self, bytes: &[u8]) -> Result<usize, NoMemory>
+        requires { 0 < length bytes.now }
+        ensures ok { IfOk result (λ count. Absorbs self.old self.new bytes.now count) }
+        ensures err { OnErr result (self.new ≡ self.old) }
+    {
+        let count = self.reader.missing().saturating_sub(1).min(bytes.len() - 1);
+        self.reader.absorb(&bytes[..count])?;
+        Ok(count)
     }
 
     /// Takes one byte, unless it shows a fault or must wait, and tells whether it did.
@@ -149,7 +164,7 @@ impl Mux {
         ensures err { OnErr result (self.new ≡ self.old) }
     {
         let fault = self.reader.fault_with(byte).is_some();
-        let _frame = self.reader.push(byte)?;
+        self.reader.skip(byte)?;
         Ok(!fault)
     }
 
@@ -158,7 +173,7 @@ impl Mux {
         ensures ok { IfOk result (λ went. (went ≡ true) × (self.new ≡ moved self.old byte)) }
         ensures err { OnErr result (self.new ≡ self.old) }
     {
-        let _frame = self.reader.push(byte)?;
+        self.reader.skip(byte)?;
         Ok(true)
     }
 
@@ -176,7 +191,7 @@ impl Mux {
             return self.refuse(byte, sid, trail);
         }
         trail.reserve()?;
-        let _frame = self.reader.push(byte)?;
+        self.reader.skip(byte)?;
         begin(self.alloc, &mut self.streams, sid)?;
         self.last = Some(sid);
         self.living += 1;
@@ -198,7 +213,7 @@ impl Mux {
             return Ok(false);
         }
         trail.events.reserve(1)?;
-        let _frame = self.reader.push(byte)?;
+        self.reader.skip(byte)?;
         self.send(Cmd::Fin, sid, &[])?;
         self.last = Some(sid);
         trail.events.push_reserved(Event::Refused(sid));
@@ -216,7 +231,7 @@ impl Mux {
             return self.pass_over(byte);
         }
         trail.reserve()?;
-        let _frame = self.reader.push(byte)?;
+        self.reader.skip(byte)?;
         set_over(&mut self.streams, sid, true);
         trail.note(Event::Ended(sid), Step::Ended(sid));
         Ok(true)
