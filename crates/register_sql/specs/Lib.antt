@@ -1,0 +1,5 @@
+pub mod Faults
+pub mod RawRows
+pub mod Stores
+pub mod Tables
+pub mod Texts
