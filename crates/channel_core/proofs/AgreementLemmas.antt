@@ -32,9 +32,9 @@ IsSentFrom items bound (Outgoing.Stream m) =
 IsSentFrom items bound (Outgoing.Ack n id date) = Unit {0}
 
 -- an acknowledgement has a number that was taken
-abbrev pub IsAckOf : List ℕ → Outgoing → Type 0
-IsAckOf taken (Outgoing.Stream m) = Unit {0}
-IsAckOf taken (Outgoing.Ack n id date) = has_number taken n ≡ true
+abbrev pub AcksTaken : List ℕ → Outgoing → Type 0
+AcksTaken taken (Outgoing.Stream m) = Unit {0}
+AcksTaken taken (Outgoing.Ack n id date) = has_number taken n ≡ true
 
 -- a numbered item is the one that was put in with this number
 abbrev pub IsPutAs : List Item → ℕ × Item → Type 0
@@ -49,7 +49,7 @@ pub record Agree (w : ℕ) (s r : List Entry) : Type 0 where
   pub sent : All (IsSentFrom (put_items s) (lowest_unacked s + w)) (emissions s)
   pub taken : All (IsPutAs (put_items s)) (taken_items r)
   pub owed : All (IsTaken (numbers_of (taken_items r))) (owed_acks w r)
-  pub acks : All (IsAckOf (numbers_of (taken_items r))) (emissions r)
+  pub acks : All (AcksTaken (numbers_of (taken_items r))) (emissions r)
   pub acked : (n : ℕ)
       → has_number (acked_numbers s) n ≡ true
       → has_number (numbers_of (taken_items r)) n ≡ true
@@ -93,7 +93,7 @@ IsHeardOf sent call answer = ¬ IsNoMemory call answer → WasEmitted sent call
 -- a number that is acknowledged was taken at the other end
 acked_taken : (w : ℕ) (s : List Entry) (call : EndCall) (answer : EndAnswer)
     (sent : List Outgoing) (taken : List ℕ)
-    → All (IsAckOf taken) sent
+    → All (AcksTaken taken) sent
     → IsHeardOf sent call answer
     → IsAnswered w s call answer
     → IfSome (number_acked answer) (λ n. has_number taken n ≡ true)
@@ -107,7 +107,7 @@ acked_taken w s call answer sent taken acks emitted answered =
       released = λ now n id item absent near emitted. tt;
       acked = λ now n out before emitted.
           let was : WasEmitted sent (EndCall.Heard now (Incoming.Ack n)) = emitted (λ none. cc) in
-          All-contains (IsAckOf taken) sent (Outgoing.Ack n was.0 was.1) acks was.2;
+          All-contains (AcksTaken taken) sent (Outgoing.Ack n was.0 was.1) acks was.2;
       emit_ack = λ now p owed is emitted. tt;
       emit_stream = λ now n m below eligible is emitted. tt;
     }) call answer answered emitted
@@ -234,10 +234,10 @@ owed_taken w r call answer all answered =
 ack_taken : (w : ℕ) (r : List Entry) (call : EndCall) (answer : EndAnswer)
     → All (IsTaken (numbers_of (taken_items r))) (owed_acks w r)
     → IsAnswered w r call answer
-    → IfSome (message_emitted answer) (IsAckOf (numbers_of (taken_items r)))
+    → IfSome (message_emitted answer) (AcksTaken (numbers_of (taken_items r)))
 ack_taken w r call answer all answered =
     let taken = numbers_of (taken_items r) in
-    by_cases w r (λ call answer. IfSome (message_emitted answer) (IsAckOf taken))
+    by_cases w r (λ call answer. IfSome (message_emitted answer) (AcksTaken taken))
     (record {
       quiet = λ call answer quiet. rw quiet.emitted tt;
       seq = λ item id now apart. tt;
@@ -249,7 +249,7 @@ ack_taken w r call answer all answered =
     }) call answer answered
 
 -- an acknowledgement is of a number that was taken, also where more are
-ack_more : (taken more : List ℕ) (out : Outgoing) → IsAckOf taken out → IsAckOf (taken ++ more) out
+ack_more : (taken more : List ℕ) (out : Outgoing) → AcksTaken taken out → AcksTaken (taken ++ more) out
 ack_more taken more (Outgoing.Stream m) is = tt
 ack_more taken more (Outgoing.Ack n id date) is = has_number-more taken more n is
 
@@ -277,11 +277,11 @@ receiver_after w s r e agree answered emitted =
       owed = rw (taken_items-push r e, owed_acks-push w r e)
           (owed_taken w r e.call e.answer agree.owed answered);
       acks = rw (emissions-push, numbers)
-          (All-weaker (IsAckOf taken) (IsAckOf (taken ++ numbers_of new))
+          (All-weaker (AcksTaken taken) (AcksTaken (taken ++ numbers_of new))
           (ack_more taken (numbers_of new))
           (emissions r ++ cons_option (message_emitted e.answer) [])
-          (All-append (IsAckOf taken) (emissions r) (cons_option (message_emitted e.answer) [])
-          agree.acks (All-option (IsAckOf taken) (message_emitted e.answer) ack)));
+          (All-append (AcksTaken taken) (emissions r) (cons_option (message_emitted e.answer) [])
+          agree.acks (All-option (AcksTaken taken) (message_emitted e.answer) ack)));
       acked = λ n there. rw numbers (has_number-more taken (numbers_of new) n (agree.acked n there));
     }
 

@@ -11,6 +11,7 @@ pub mod HistoryLemmas
 pub mod ItemLemmas
 pub mod LegalLemmas
 pub mod NumberLemmas
+pub mod OwedLemmas
 pub mod PassLemmas
 pub mod PendingLemmas
 pub mod PossibleLemmas
@@ -20,6 +21,7 @@ pub mod ReleaseLemmas
 pub mod SearchLemmas
 pub mod SendingLemmas
 pub mod ShortLemmas
+pub mod SinceLemmas
 pub mod SoundLemmas
 pub mod StandingLemmas
 pub mod StillLemmas

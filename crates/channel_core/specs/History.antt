@@ -121,6 +121,19 @@ owed_after w owed answer call = owed
 unfoldable pub owed_acks : ℕ → List Entry → List (ℕ × List ℕ)
 owed_acks w h = fold (λ owed e. owed_after w owed e.answer e.call) [] h
 
+-- the numbers that are owed
+abbrev pub owed_numbers : ℕ → List Entry → List ℕ
+owed_numbers w h = map (λ p. p.0) (owed_acks w h)
+
+-- the acknowledgement that is given out: number and MessageId
+abbrev pub ack_of : Outgoing → Option (ℕ × List ℕ)
+ack_of (Outgoing.Stream m) = None
+ack_of (Outgoing.Ack n id date) = Some (n, id)
+
+-- the acknowledgements that were given out, in order
+abbrev pub emitted_acks : List Entry → List (ℕ × List ℕ)
+emitted_acks h = filter_map ack_of (emissions h)
+
 -- an opening connects the end, a loss disconnects it
 abbrev pub up_after : Bool → EndCall → Bool
 up_after up (EndCall.Opened now) = true

@@ -1,6 +1,6 @@
 -- The laws: what holds in every legal and honest world, whatever is lost, repeated or reordered.
-use Rattle.std.specs.Prelude.{◌≡◌, ◌≢◌, ℕ, ◌+◌, ◌-◌, ◌*◌, ◌<◌, ◌≤◌, true, false, Some, List, [], ◌∷◌, ◌++◌, length, slice_get}
-use Rattle.std.specs.List.{All, AllPairs, Contains}
+use Rattle.std.specs.Prelude.{◌≡◌, ◌≢◌, ◌↔◌, ℕ, ◌+◌, ◌-◌, ◌*◌, ◌<◌, ◌≤◌, true, false, Some, List, [], ◌∷◌, ◌++◌, length, slice_get}
+use Rattle.std.specs.List.{All, AllPairs, Any, Contains}
 use Rattle.chan_values.specs.declared.side.Side.{Side}
 use Rattle.chan_values.specs.Sides.{other}
 use Rattle.chan_values.specs.declared.item.Item.{Item}
@@ -11,9 +11,11 @@ use Rattle.channel_core.specs.Call.{Entry}
 use Rattle.channel_core.specs.Callable.{IsCallable}
 use Rattle.channel_core.specs.Encodable.{CanBeEncoded}
 use Rattle.channel_core.specs.Exchange.{IsExchange, pull_count}
-use Rattle.channel_core.specs.History.{acked_numbers, early_items, emissions, is_closed, next_in_order, owed_acks, put_items, released_items, taken_items, unacked_numbers}
+use Rattle.channel_core.specs.History.{acked_numbers, emitted_acks, early_items, emissions, is_closed, is_paused, is_up, next_in_order, owed_acks, owed_numbers, put_items, released_items, taken_items, unacked_numbers}
 use Rattle.channel_core.specs.Legal.{IsAnswered, IsLegal}
 use Rattle.channel_core.specs.Numbers.{has_number}
+use Rattle.channel_core.specs.Resending.{marked_due, sent_since_opened}
+use Rattle.channel_core.specs.Since.{FindsRoom, IsAckOf, IsClosing, IsDueOf, IsEmissionOf, IsLoss, IsOpening, IsPause, IsSince, IsStart}
 use Rattle.channel_core.specs.World.{Event, HearsEmitted, IsHonest, IsLegalWorld, history_of}
 
 -- a world of no events is legal and honest, and it stays so with each call that gets its answer and
@@ -126,3 +128,51 @@ ExchangeIsPossible =
     × IsExchange xs
     × IsLegalWorld w (world ++ xs)
     × ((end : Side) → is_closed (history_of end (world ++ xs)) ≡ false)
+
+-- an end is up exactly where a connection was made and not lost since
+abbrev pub UpIsOpenedLast : Type 0
+UpIsOpenedLast = (h : List Entry) → (is_up h ≡ true) ↔ IsSince (λ _. IsOpening) IsLoss h
+
+-- it is paused exactly where it heard a pause, and since then no start, and got no new connection
+abbrev pub PausedIsPausedLast : Type 0
+PausedIsPausedLast = (h : List Entry) → (is_paused h ≡ true) ↔ IsSince (λ _. IsPause) IsStart h
+
+-- it is closed exactly where some entry closed it
+abbrev pub ClosedIsClosedOnce : Type 0
+ClosedIsClosedOnce = (h : List Entry) → (is_closed h ≡ true) ↔ Any IsClosing h
+
+-- a number was sent on the present connection exactly where it was given out, and no connection was
+-- made since
+abbrev pub SentIsEmittedSinceOpened : Type 0
+SentIsEmittedSinceOpened =
+    (w : ℕ) (h : List Entry) (n : ℕ)
+    → IsLegal w h
+    → (has_number (sent_since_opened h) n ≡ true) ↔ IsSince (λ _. IsEmissionOf n) IsOpening h
+
+-- a number is marked exactly where its timer expired, and it was not given out since
+abbrev pub MarkedIsDueLast : Type 0
+MarkedIsDueLast =
+    (h : List Entry) (n : ℕ)
+    → (has_number (marked_due h) n ≡ true) ↔ IsSince (λ _. IsDueOf n) (IsEmissionOf n) h
+
+-- a number is owed exactly where its message was taken or came late, with room to owe it, and its
+-- acknowledgement was not given out since
+abbrev pub OwedIsHeardLast : Type 0
+OwedIsHeardLast =
+    (w : ℕ) (h : List Entry) (n : ℕ)
+    → IsLegal w h
+    → (has_number (owed_numbers w h) n ≡ true) ↔ IsSince (FindsRoom w n) (IsAckOf n) h
+
+-- no number is owed twice
+abbrev pub EachNumberIsOwedOnce : Type 0
+EachNumberIsOwedOnce = (w : ℕ) (h : List Entry) → AllPairs (λ p q. p.0 ≢ q.0) (owed_acks w h)
+
+-- to the acknowledgements that were given out and are owed, in this order, more is added at the end
+-- alone
+abbrev pub AcksKeepTheirOrder : Type 0
+AcksKeepTheirOrder =
+    (w : ℕ) (h more : List Entry)
+    → IsLegal w (h ++ more)
+    → IsPrefixOf
+    (emitted_acks h ++ owed_acks w h)
+    (emitted_acks (h ++ more) ++ owed_acks w (h ++ more))

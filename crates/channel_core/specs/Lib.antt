@@ -8,6 +8,7 @@ pub mod Laws
 pub mod Legal
 pub mod Numbers
 pub mod Resending
+pub mod Since
 pub mod Stands
 pub mod Wire
 pub mod World

@@ -6,7 +6,7 @@
 //! and reorder messages, drop connections and pause the ends as it likes.
 //! A law is the contract of a function with an empty body, by the definitions of `specs/`.
 
-ghost use Rattle.channel_core.specs.Laws.{AcknowledgedHasArrived, EachNumberIsTakenOnce, EmissionsCanBeEncoded, ExchangeIsPossible, ExchangeIsShort, ExchangeReleasesAll, NothingIsBeyond, ReleasedIsInOrder, ReleasedIsPrefix, WindowBoundsMessages, WorldsGoOn};
+ghost use Rattle.channel_core.specs.Laws.{AcknowledgedHasArrived, AcksKeepTheirOrder, ClosedIsClosedOnce, EachNumberIsOwedOnce, EachNumberIsTakenOnce, EmissionsCanBeEncoded, ExchangeIsPossible, ExchangeIsShort, ExchangeReleasesAll, MarkedIsDueLast, NothingIsBeyond, OwedIsHeardLast, PausedIsPausedLast, ReleasedIsInOrder, ReleasedIsPrefix, SentIsEmittedSinceOpened, UpIsOpenedLast, WindowBoundsMessages, WorldsGoOn};
 
 /// A world goes on with any call that gets its answer and hears only what was emitted, and with any
 /// that wants for memory, whatever it was to hear.
@@ -64,4 +64,48 @@ pub fn exchange_is_possible()
 /// Such an exchange takes at most 2w + 1 pulls of each end, the last of which finds nothing.
 pub fn exchange_is_short()
     ensures { ExchangeIsShort }
+{}
+
+/// An end is up exactly where it was connected and the connection was not lost since.
+pub fn up_is_opened_last()
+    ensures { UpIsOpenedLast }
+{}
+
+/// An end is paused exactly where it heard a pause, and since then no start, and was not connected
+/// anew.
+pub fn paused_is_paused_last()
+    ensures { PausedIsPausedLast }
+{}
+
+/// An end is closed exactly where it was closed once: from this side, by a closing that it heard, or
+/// by a message that it gave up.
+pub fn closed_is_closed_once()
+    ensures { ClosedIsClosedOnce }
+{}
+
+/// A number was sent on the present connection exactly where it was given out, and no connection was
+/// made since.
+pub fn sent_is_emitted_since_opened()
+    ensures { SentIsEmittedSinceOpened }
+{}
+
+/// A number is marked exactly where its retransmission timer expired, and it was not given out since.
+pub fn marked_is_due_last()
+    ensures { MarkedIsDueLast }
+{}
+
+/// A number is owed exactly where its message was taken or came late, with room to owe it, and its
+/// acknowledgement was not given out since.
+pub fn owed_is_heard_last()
+    ensures { OwedIsHeardLast }
+{}
+
+/// No number is owed twice.
+pub fn each_number_is_owed_once()
+    ensures { EachNumberIsOwedOnce }
+{}
+
+/// Acknowledgements go out in the order in which they came to be owed, and none is passed over.
+pub fn acks_keep_their_order()
+    ensures { AcksKeepTheirOrder }
 {}

@@ -1,0 +1,5 @@
+use Rattle.channel_core.proofs.OwedLemmas.{owed_is_heard_last}
+use Rattle.channel_core.proofs.laws.owed_is_heard_last.Goals as goal
+
+pub returns : goal.returns
+returns c = owed_is_heard_last

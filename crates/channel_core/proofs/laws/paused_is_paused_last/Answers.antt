@@ -1,0 +1,5 @@
+use Rattle.channel_core.proofs.SinceLemmas.{paused_is_paused_last}
+use Rattle.channel_core.proofs.laws.paused_is_paused_last.Goals as goal
+
+pub returns : goal.returns
+returns c = paused_is_paused_last
