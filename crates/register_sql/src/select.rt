@@ -14,8 +14,7 @@ ghost use Rattle.sqlite.specs.Order.{bytes, column};
 ghost use Rattle.sqlite.specs.Edit.{id_in};
 
 use crate::fault::{SqlFault, fault_of};
-use crate::old_row::{RawOldChain, RawOldRow};
-use crate::row::{RawChain, RawRow};
+use crate::row::{RawChain, RawOldChain, RawOldRow, RawRow};
 use chan_values::{Bytes, Text};
 use sqlite::{Alter, Connection, Error, Row, params};
 
@@ -75,7 +74,8 @@ fn ask_new<S: Alter>(store: &mut Connection<S>, session: &str) -> Result<Vec<Row
         → QueryWasRefused select_new_text (Words session.now ∷ []) (state S.Store store.old) (state S.Store store.new) }
 {
     match store.query_all(
-        "SELECT session, ended, p_last, p_prev, p_opened, a_last, a_prev, a_opened FROM sessions2 WHERE session = ?1",
+        "SELECT session, ended, p_last, p_prev, p_opened, a_last, a_prev, a_opened \
+         FROM sessions2 WHERE session = ?1",
         params![session],
     ) {
         Ok(rows) => Ok(rows),
@@ -93,7 +93,8 @@ fn ask_old<S: Alter>(store: &mut Connection<S>, session: &str) -> Result<Vec<Row
         → QueryWasRefused select_old_text (Words session.now ∷ []) (state S.Store store.old) (state S.Store store.new) }
 {
     match store.query_all(
-        "SELECT session, ended, p_last, p_prev, a_last, a_prev FROM sessions WHERE session = ?1",
+        "SELECT session, ended, p_last, p_prev, a_last, a_prev \
+         FROM sessions WHERE session = ?1",
         params![session],
     ) {
         Ok(rows) => Ok(rows),

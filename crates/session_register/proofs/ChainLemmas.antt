@@ -29,7 +29,8 @@ or-true : (b : Bool) → (b || true) ≡ true
 or-true true = refl
 or-true false = refl
 
-given-one : (p : Option Token) (tokens : List Token) → reverse (cons_option p []) ++ tokens ≡ cons_option p tokens
+given-one : (p : Option Token) (tokens : List Token) → reverse (cons_option p []) ++ tokens
+    ≡ cons_option p tokens
 given-one None tokens = refl
 given-one (Some t) tokens = refl
 
@@ -56,11 +57,13 @@ one-cond : (b : Bool) → cond b 1 0 ≡ one b
 one-cond true = refl
 one-cond false = refl
 
-count-push : (p : Entry → Bool) (cs : List Entry) (e : Entry) → count_by p (cs ++ e ∷ []) ≡ count_by p cs + one (p e)
+count-push : (p : Entry → Bool) (cs : List Entry) (e : Entry) → count_by p (cs ++ e ∷ []) ≡ count_by
+    p cs + one (p e)
 count-push p cs e =
     omega (arith, sum_by-append (λ x. cond (p x) 1 0) cs (e ∷ []), one-cond (p e))
 
-drop-push : (from : ℕ) (cs : List Entry) (e : Entry) → from ≤ length cs → drop from (cs ++ e ∷ []) ≡ drop from cs ++ e ∷ []
+drop-push : (from : ℕ) (cs : List Entry) (e : Entry) → from ≤ length cs
+    → drop from (cs ++ e ∷ []) ≡ drop from cs ++ e ∷ []
 drop-push from cs e within = drop-append-le from cs (e ∷ []) within
 
 opening-push : (from : ℕ) (cs : List Entry) (e : Entry) (s : List ℕ) (r : Side) → from ≤ length cs
@@ -69,7 +72,8 @@ opening-push : (from : ℕ) (cs : List Entry) (e : Entry) (s : List ℕ) (r : Si
 unfolding opening_count
 opening-push from cs e s r within =
     let new = count-push (gives_new s r) cs e in
-    let again = ap (count_by (gives_again s r)) (drop-push from cs e within) ∙ count-push (gives_again s r) (drop from cs) e in
+    let again = ap (count_by (gives_again s r)) (drop-push from cs e within)
+        ∙ count-push (gives_again s r) (drop from cs) e in
     omega (arith, new, again)
 
 -- ---- rows, by what was read off
@@ -95,7 +99,8 @@ row-push from cs e s within =
 counts-same : (k : ℕ) → k ≤ greatest → counted_by k false false ≡ k
 counts-same k within = omega (arith, within)
 
-count-within : (from : ℕ) (cs : List Entry) (s : List ℕ) (r : Side) → opening_count from cs s r ≤ greatest
+count-within : (from : ℕ) (cs : List Entry) (s : List ℕ) (r : Side)
+    → opening_count from cs s r ≤ greatest
 unfolding opening_count
 count-within from cs s r = omega arith
 
@@ -137,20 +142,24 @@ with_effect s ended tp kp ta ka f =
     (cons_option f.agent ta) (counted_by ka f.new_a f.again_a)
 
 -- an entry without effect tells nothing new
-row-same : (from : ℕ) (cs : List Entry) (e : Entry) (s : List ℕ) → from ≤ length cs → effect s e ≡ nothing
+row-same : (from : ℕ) (cs : List Entry) (e : Entry) (s : List ℕ) → from ≤ length cs
+    → effect s e ≡ nothing
     → row_told from (cs ++ e ∷ []) s ≡ row_told from cs s
 row-same from cs e s within none =
     row-push from cs e s within
     ∙ ap (with_effect s (is_ended cs s) (tokens_given cs s Plugin) (opening_count from cs s Plugin)
     (tokens_given cs s Agent) (opening_count from cs s Agent)) none
     ∙ (λ i. facts s (or-false (is_ended cs s) i)
-    (tokens_given cs s Plugin) (counts-same (opening_count from cs s Plugin) (count-within from cs s Plugin) i)
-    (tokens_given cs s Agent) (counts-same (opening_count from cs s Agent) (count-within from cs s Agent) i))
+    (tokens_given cs s Plugin)
+        (counts-same (opening_count from cs s Plugin) (count-within from cs s Plugin) i)
+    (tokens_given cs s Agent)
+        (counts-same (opening_count from cs s Agent) (count-within from cs s Agent) i))
 
 -- an entry of another session has no effect
 other-effect : (s : List ℕ) (e : Entry) → same_name (session_of e) s ≡ false → effect s e ≡ nothing
 other-effect s (Creates x p a (Created.New tp ta)) not =
-    λ i. record nothing { plugin = cond (not i) (Some tp) None; agent = cond (not i) (Some ta) None }
+    λ i. record nothing { plugin = cond (not i) (Some tp) None; agent = cond (not i) (Some ta) None
+        }
 other-effect s (Creates x p a Created.Exists) not = refl
 other-effect s (Opens x r t f (Open.Successor token)) not =
     λ i. record nothing {
@@ -160,7 +169,8 @@ other-effect s (Opens x r t f (Open.Successor token)) not =
       new_a = not i && same_side r Agent;
     }
 other-effect s (Opens x r t f (Open.Same token)) not =
-    λ i. record nothing { again_p = not i && same_side r Plugin; again_a = not i && same_side r Agent }
+    λ i. record nothing { again_p = not i && same_side r Plugin; again_a =
+        not i && same_side r Agent }
 other-effect s (Opens x r t f Open.NoSession) not = refl
 other-effect s (Opens x r t f Open.BadToken) not = refl
 other-effect s (Opens x r t f Open.Ended) not = refl
@@ -172,7 +182,8 @@ other-effect s (Counts x answer) not = refl
 
 -- ---- what holds of each session: either nothing was told of it, or tokens of both ends
 
-pub record IsAbsent (ended : Bool) (tp : List Token) (kp : ℕ) (ta : List Token) (ka : ℕ) : Type 0 where
+pub record IsAbsent (ended : Bool) (tp : List Token) (kp : ℕ) (ta : List Token) (ka : ℕ) : Type 0
+    where
   pub open_still : ended ≡ false
   pub no_plugin : tp ≡ []
   pub none_counted_p : kp ≡ 0
@@ -194,7 +205,8 @@ TellsRow s ended tp kp ta ka f e =
     × IsSoundAt (ended || f.ended) (cons_option f.plugin tp) (counted_by kp f.new_p f.again_p)
     (cons_option f.agent ta) (counted_by ka f.new_a f.again_a)
 
-tells-nothing : (s : List ℕ) (ended : Bool) (tp : List Token) (kp : ℕ) (ta : List Token) (ka : ℕ) (e : Entry)
+tells-nothing : (s : List ℕ) (ended : Bool) (tp : List Token) (kp : ℕ) (ta : List Token) (ka : ℕ)
+    (e : Entry)
     → kp ≤ greatest → ka ≤ greatest → IsSoundAt ended tp kp ta ka
     → row_after e (facts s ended tp kp ta ka) ≡ facts s ended tp kp ta ka
     → TellsRow s ended tp kp ta ka nothing e
@@ -202,7 +214,8 @@ tells-nothing s ended tp kp ta ka e fits_p fits_a sound same =
     let p = sym (counts-same kp fits_p) in
     let a = sym (counts-same ka fits_a) in (
       sym ((λ i. facts s (sym (or-false ended) i) tp (p i) ta (a i))) ∙ sym same,
-      subst (λ (b : Bool). IsSoundAt b tp (counted_by kp false false) ta (counted_by ka false false)) (sym (or-false ended))
+      subst (λ (b : Bool). IsSoundAt b tp (counted_by kp false false) ta
+          (counted_by ka false false)) (sym (or-false ended))
           (subst (λ k. IsSoundAt ended tp k ta (counted_by ka false false)) p
           (subst (λ k. IsSoundAt ended tp kp ta k) a sound)),
     )
@@ -222,16 +235,20 @@ some-row s ended (l ∷ k ∷ tp) kp (m ∷ n ∷ ta) ka p a = (_, refl)
 
 unless-new : (row : Row) (found : Option Row) (p a : ℕ) (t u : Token) → found ≡ Some row
     → Created.New t u ≡ answer_to_create found p a → ⊥
-unless-new row found p a t u is answered = let e = ap (λ o. answer_to_create o p a) is in cc (answered ∙ e)
+unless-new row found p a t u is answered = let e = ap (λ o. answer_to_create o p a) is in
+    cc (answered ∙ e)
 
-unless-open : (found : Option Row) (role : Side) (token : Token) (fresh : ℕ) (answer : Open) → found ≡ None
+unless-open : (found : Option Row) (role : Side) (token : Token) (fresh : ℕ) (answer : Open)
+    → found ≡ None
     → answer ≡ answer_to_open found role token fresh → answer ≡ Open.NoSession
-unless-open found role token fresh answer is answered = answered ∙ ap (λ o. answer_to_open o role token fresh) is
+unless-open found role token fresh answer is answered = answered
+    ∙ ap (λ o. answer_to_open o role token fresh) is
 
 unless-done : (found : Option Row) → found ≡ None → Closing.Done ≡ answer_to_end found → ⊥
 unless-done found is answered = let e = ap answer_to_end is in cc (answered ∙ e)
 
-unless-none : (row : Row) (found : Option Row) → found ≡ Some row → Closing.NoSession ≡ answer_to_end found → ⊥
+unless-none : (row : Row) (found : Option Row) → found ≡ Some row
+    → Closing.NoSession ≡ answer_to_end found → ⊥
 unless-none row found is answered = let e = ap answer_to_end is in cc (answered ∙ e)
 
 -- an answer that changes no chain
@@ -242,7 +259,8 @@ idle-open answer role None same = refl
 idle-open answer Plugin (Some row) same = λ i. Some (record row { plugin = same row.plugin i })
 idle-open answer Agent (Some row) same = λ i. Some (record row { agent = same row.agent i })
 
-succ-plugin : (s : List ℕ) (ended : Bool) (tp : List Token) (kp : ℕ) (ta : List Token) (ka : ℕ) (token : Token)
+succ-plugin : (s : List ℕ) (ended : Bool) (tp : List Token) (kp : ℕ) (ta : List Token) (ka : ℕ)
+    (token : Token)
     → tp ≢ [] → ta ≢ []
     → facts s ended (token ∷ tp) (counted_by kp true false) ta ka
     ≡ option_map (opened_row (Open.Successor token) Plugin) (facts s ended tp kp ta ka)
@@ -253,7 +271,8 @@ succ-plugin s ended (l ∷ []) kp (m ∷ n ∷ ta) ka token p a = refl
 succ-plugin s ended (l ∷ k ∷ tp) kp (m ∷ []) ka token p a = refl
 succ-plugin s ended (l ∷ k ∷ tp) kp (m ∷ n ∷ ta) ka token p a = refl
 
-succ-agent : (s : List ℕ) (ended : Bool) (tp : List Token) (kp : ℕ) (ta : List Token) (ka : ℕ) (token : Token)
+succ-agent : (s : List ℕ) (ended : Bool) (tp : List Token) (kp : ℕ) (ta : List Token) (ka : ℕ)
+    (token : Token)
     → tp ≢ [] → ta ≢ []
     → facts s ended tp kp (token ∷ ta) (counted_by ka true false)
     ≡ option_map (opened_row (Open.Successor token) Agent) (facts s ended tp kp ta ka)
@@ -264,7 +283,8 @@ succ-agent s ended (l ∷ []) kp (m ∷ n ∷ ta) ka token p a = refl
 succ-agent s ended (l ∷ k ∷ tp) kp (m ∷ []) ka token p a = refl
 succ-agent s ended (l ∷ k ∷ tp) kp (m ∷ n ∷ ta) ka token p a = refl
 
-same-plugin : (s : List ℕ) (ended : Bool) (tp : List Token) (kp : ℕ) (ta : List Token) (ka : ℕ) (token : Token)
+same-plugin : (s : List ℕ) (ended : Bool) (tp : List Token) (kp : ℕ) (ta : List Token) (ka : ℕ)
+    (token : Token)
     → tp ≢ [] → ta ≢ []
     → facts s ended tp (counted_by kp false true) ta ka
     ≡ option_map (opened_row (Open.Same token) Plugin) (facts s ended tp kp ta ka)
@@ -275,7 +295,8 @@ same-plugin s ended (l ∷ []) kp (m ∷ n ∷ ta) ka token p a = refl
 same-plugin s ended (l ∷ k ∷ tp) kp (m ∷ []) ka token p a = refl
 same-plugin s ended (l ∷ k ∷ tp) kp (m ∷ n ∷ ta) ka token p a = refl
 
-same-agent : (s : List ℕ) (ended : Bool) (tp : List Token) (kp : ℕ) (ta : List Token) (ka : ℕ) (token : Token)
+same-agent : (s : List ℕ) (ended : Bool) (tp : List Token) (kp : ℕ) (ta : List Token) (ka : ℕ)
+    (token : Token)
     → tp ≢ [] → ta ≢ []
     → facts s ended tp kp ta (counted_by ka false true)
     ≡ option_map (opened_row (Open.Same token) Agent) (facts s ended tp kp ta ka)
@@ -301,11 +322,13 @@ some-cons : (p : Option Token) (tokens : List Token) → tokens ≢ [] → cons_
 some-cons None tokens some is = some is
 some-cons (Some t) tokens some is = cc
 
-stays-sound : (s : List ℕ) (ended : Bool) (tp : List Token) (kp : ℕ) (ta : List Token) (ka : ℕ) (f : Effect)
+stays-sound : (s : List ℕ) (ended : Bool) (tp : List Token) (kp : ℕ) (ta : List Token) (ka : ℕ)
+    (f : Effect)
     → (tp ≢ []) × (ta ≢ [])
     → IsSoundAt (ended || f.ended) (cons_option f.plugin tp) (counted_by kp f.new_p f.again_p)
     (cons_option f.agent ta) (counted_by ka f.new_a f.again_a)
-stays-sound s ended tp kp ta ka f some = inr (some-cons f.plugin tp some.0, some-cons f.agent ta some.1)
+stays-sound s ended tp kp ta ka f some =
+    inr (some-cons f.plugin tp some.0, some-cons f.agent ta some.1)
 
 module _ (s : List ℕ) (ended : Bool) (tp : List Token) (kp : ℕ) (ta : List Token) (ka : ℕ)
     (fits_p : kp ≤ greatest) (fits_a : ka ≤ greatest) where
@@ -322,7 +345,8 @@ module _ (s : List ℕ) (ended : Bool) (tp : List Token) (kp : ℕ) (ta : List T
       → Created.New t u ≡ answer_to_create (facts s ended tp kp ta ka) p a
       → Tells (record nothing { plugin = Some t; agent = Some u }) (Creates x p a (Created.New t u))
   tells-new x p a t u same (inl absent) answered = (
-    (λ i. facts s (absent.open_still i || false) (t ∷ absent.no_plugin i) (counted_by (absent.none_counted_p i) false false)
+    (λ i. facts s (absent.open_still i || false) (t ∷ absent.no_plugin i)
+        (counted_by (absent.none_counted_p i) false false)
         (u ∷ absent.no_agent i) (counted_by (absent.none_counted_a i) false false))
         ∙ ap (λ name. row_after (Creates name p a (Created.New t u)) None) (sym same),
     inr ((λ is. cc), (λ is. cc)),
@@ -331,7 +355,8 @@ module _ (s : List ℕ) (ended : Bool) (tp : List Token) (kp : ℕ) (ta : List T
       let row = some-row s ended tp kp ta ka some.0 some.1 in
       absurd (unless-new row.0 _ p a t u row.1 answered)
 
-  tells-succ : (x : List ℕ) (r : Side) (t : Token) (f : ℕ) (token : Token) → IsSoundAt ended tp kp ta ka
+  tells-succ : (x : List ℕ) (r : Side) (t : Token) (f : ℕ) (token : Token)
+      → IsSoundAt ended tp kp ta ka
       → Open.Successor token ≡ answer_to_open (facts s ended tp kp ta ka) r t f
       → Tells (record nothing {
         plugin = cond (same_side r Plugin) (Some token) None;
@@ -340,7 +365,8 @@ module _ (s : List ℕ) (ended : Bool) (tp : List Token) (kp : ℕ) (ta : List T
         new_a = same_side r Agent;
       }) (Opens x r t f (Open.Successor token))
   tells-succ x r t f token (inl absent) answered =
-      let no = unless-open _ r t f (Open.Successor token) (no-row s ended tp kp ta ka absent) answered in cc
+      let no = unless-open _ r t f (Open.Successor token) (no-row s ended tp kp ta ka absent)
+          answered in cc
   tells-succ x Plugin t f token (inr some) answered = (
     (λ i. facts s (or-false ended i) (token ∷ tp) (counted_by kp true false) ta (same_a i))
         ∙ succ-plugin s ended tp kp ta ka token some.0 some.1,
@@ -352,12 +378,14 @@ module _ (s : List ℕ) (ended : Bool) (tp : List Token) (kp : ℕ) (ta : List T
     inr (some.0, (λ is. cc)),
   )
 
-  tells-same : (x : List ℕ) (r : Side) (t : Token) (f : ℕ) (token : Token) → IsSoundAt ended tp kp ta ka
+  tells-same : (x : List ℕ) (r : Side) (t : Token) (f : ℕ) (token : Token)
+      → IsSoundAt ended tp kp ta ka
       → Open.Same token ≡ answer_to_open (facts s ended tp kp ta ka) r t f
       → Tells (record nothing { again_p = same_side r Plugin; again_a = same_side r Agent })
       (Opens x r t f (Open.Same token))
   tells-same x r t f token (inl absent) answered =
-      let no = unless-open _ r t f (Open.Same token) (no-row s ended tp kp ta ka absent) answered in cc
+      let no = unless-open _ r t f (Open.Same token) (no-row s ended tp kp ta ka absent) answered in
+          cc
   tells-same x Plugin t f token (inr some) answered = (
     (λ i. facts s (or-false ended i) tp (counted_by kp false true) ta (same_a i))
         ∙ same-plugin s ended tp kp ta ka token some.0 some.1,
@@ -372,7 +400,8 @@ module _ (s : List ℕ) (ended : Bool) (tp : List Token) (kp : ℕ) (ta : List T
   tells-done : (x : List ℕ) → IsSoundAt ended tp kp ta ka
       → Closing.Done ≡ answer_to_end (facts s ended tp kp ta ka)
       → Tells (record nothing { ended = true }) (Ends x Closing.Done)
-  tells-done x (inl absent) answered = absurd (unless-done _ (no-row s ended tp kp ta ka absent) answered)
+  tells-done x (inl absent) answered =
+      absurd (unless-done _ (no-row s ended tp kp ta ka absent) answered)
   tells-done x (inr some) answered = (
     (λ i. facts s (or-true ended i) tp (same_p i) ta (same_a i))
         ∙ ended-row s ended tp kp ta ka some.0 some.1,
@@ -395,7 +424,8 @@ module _ (s : List ℕ) (ended : Bool) (tp : List Token) (kp : ℕ) (ta : List T
       → IsAnswered (facts s ended tp kp ta ka) e → Tells (effect s e) e
   tells (Creates x p a (Created.New t u)) same sound answered =
       subst (λ f. Tells f (Creates x p a (Created.New t u)))
-      (λ i. record nothing { plugin = cond (sym same i) (Some t) None; agent = cond (sym same i) (Some u) None })
+      (λ i. record nothing { plugin = cond (sym same i) (Some t) None; agent =
+          cond (sym same i) (Some u) None })
       (tells-new x p a t u (same_name-true x s same) sound answered)
   tells (Creates x p a Created.Exists) same sound answered =
       tells-nothing s ended tp kp ta ka (Creates x p a Created.Exists) fits_p fits_a sound refl
@@ -410,18 +440,24 @@ module _ (s : List ℕ) (ended : Bool) (tp : List Token) (kp : ℕ) (ta : List T
       (tells-succ x r t f token sound answered)
   tells (Opens x r t f (Open.Same token)) same sound answered =
       subst (λ g. Tells g (Opens x r t f (Open.Same token)))
-      (λ i. record nothing { again_p = sym same i && same_side r Plugin; again_a = sym same i && same_side r Agent })
+      (λ i. record nothing { again_p = sym same i && same_side r Plugin; again_a =
+          sym same i && same_side r Agent })
       (tells-same x r t f token sound answered)
   tells (Opens x r t f Open.NoSession) same sound answered =
-      tells-nothing s ended tp kp ta ka (Opens x r t f Open.NoSession) fits_p fits_a sound (idle-open Open.NoSession r _ (λ chain. refl))
+      tells-nothing s ended tp kp ta ka (Opens x r t f Open.NoSession) fits_p fits_a sound
+          (idle-open Open.NoSession r _ (λ chain. refl))
   tells (Opens x r t f Open.BadToken) same sound answered =
-      tells-nothing s ended tp kp ta ka (Opens x r t f Open.BadToken) fits_p fits_a sound (idle-open Open.BadToken r _ (λ chain. refl))
+      tells-nothing s ended tp kp ta ka (Opens x r t f Open.BadToken) fits_p fits_a sound
+          (idle-open Open.BadToken r _ (λ chain. refl))
   tells (Opens x r t f Open.Ended) same sound answered =
-      tells-nothing s ended tp kp ta ka (Opens x r t f Open.Ended) fits_p fits_a sound (idle-open Open.Ended r _ (λ chain. refl))
+      tells-nothing s ended tp kp ta ka (Opens x r t f Open.Ended) fits_p fits_a sound
+          (idle-open Open.Ended r _ (λ chain. refl))
   tells (Opens x r t f Open.Spent) same sound answered =
-      tells-nothing s ended tp kp ta ka (Opens x r t f Open.Spent) fits_p fits_a sound (idle-open Open.Spent r _ (λ chain. refl))
+      tells-nothing s ended tp kp ta ka (Opens x r t f Open.Spent) fits_p fits_a sound
+          (idle-open Open.Spent r _ (λ chain. refl))
   tells (Ends x Closing.Done) same sound answered =
-      subst (λ f. Tells f (Ends x Closing.Done)) (λ i. record nothing { ended = sym same i }) (tells-done x sound answered)
+      subst (λ f. Tells f (Ends x Closing.Done)) (λ i. record nothing { ended = sym same i })
+          (tells-done x sound answered)
   tells (Ends x Closing.NoSession) same sound answered = tells-no-end x sound answered
   tells (AsksEnded x answer) same sound answered =
       tells-nothing s ended tp kp ta ka (AsksEnded x answer) fits_p fits_a sound refl
@@ -469,7 +505,8 @@ known-push from cs e s within =
       ka = opening-push from cs e s Agent within i;
     }
 
-known-same : (from : ℕ) (cs : List Entry) (s : List ℕ) → known_with (known from cs s) nothing ≡ known from cs s
+known-same : (from : ℕ) (cs : List Entry) (s : List ℕ) → known_with (known from cs s) nothing
+    ≡ known from cs s
 known-same from cs s =
     λ i. record {
       ended = or-false (is_ended cs s) i;
@@ -492,13 +529,15 @@ row-named from cs e s true within is sound answered =
     (tokens_given cs s Agent) (opening_count from cs s Agent)
     (count-within from cs s Plugin) (count-within from cs s Agent) e is (sound s)
     (subst (λ name. IsAnswered (row_told from cs name) e) same answered) in (
-      row-push from cs e s within ∙ told.0 ∙ ap (λ name. row_after e (row_told from cs name)) (sym same),
+      row-push from cs e s within ∙ told.0 ∙ ap (λ name. row_after e (row_told from cs name))
+          (sym same),
       subst SoundOf (sym (known-push from cs e s within)) told.1,
     )
 row-named from cs e s false within is sound answered = (
   row-same from cs e s within (other-effect s e is),
   subst SoundOf
-      (sym (known-push from cs e s within ∙ ap (known_with (known from cs s)) (other-effect s e is) ∙ known-same from cs s))
+      (sym (known-push from cs e s within ∙ ap (known_with (known from cs s)) (other-effect s e is)
+          ∙ known-same from cs s))
       (sound s),
 )
 
@@ -507,13 +546,15 @@ pub goes-on : (from : ℕ) (cs : List Entry) (e : Entry) (rows new : List Row) �
     → IsSound from cs → Shows from cs rows → Meets e (Some rows) (Some new)
     → GoesOn from cs e × IsSound from (cs ++ e ∷ []) × Shows from (cs ++ e ∷ []) new
 goes-on from cs e rows new within sound shows meets =
-    let answered : GoesOn from cs e = subst (λ row. IsAnswered row e) (shows (session_of e)) meets.0 in
+    let answered : GoesOn from cs e = subst (λ row. IsAnswered row e) (shows (session_of e)) meets.0
+        in
     let is_new : meets.1.0 ≡ new = cc (meets.1.1) in
     let changes : Changes e rows new = subst (Changes e rows) is_new meets.1.2 in (
       answered,
       (λ s. (row-named from cs e s (same_name (session_of e) s) within refl sound answered).1),
       (λ s. changes s
-          ∙ (λ i. cond (same_name (session_of e) s) (row_after e (shows (session_of e) i)) (shows s i))
+          ∙ (λ i. cond (same_name (session_of e) s) (row_after e (shows (session_of e) i))
+          (shows s i))
           ∙ sym (row-named from cs e s (same_name (session_of e) s) within refl sound answered).0),
     )
 
@@ -521,15 +562,19 @@ leads-on : (from : ℕ) (before cs : List Entry) (rows new : List Row) → from 
     → IsSound from before → Shows from before rows → Leads rows cs new
     → AreAnswered from before cs × Shows from (before ++ cs) new
 leads-on from before [] rows new within sound shows leads =
-    (tt, λ s. ap (λ (r : List Row). row_of r s) leads ∙ shows s ∙ ap (λ es. row_told from es s) (sym (append-nil before)))
+    (tt, λ s. ap (λ (r : List Row). row_of r s) leads ∙ shows s ∙ ap (λ es. row_told from es s)
+        (sym (append-nil before)))
 leads-on from before (e ∷ cs) rows new within sound shows leads =
     let step = goes-on from before e rows leads.0 within sound shows leads.1 in
-    let rest = leads-on from (before ++ e ∷ []) cs leads.0 new (omega (arith, length-append before (e ∷ []))) step.1 step.2 leads.2 in
-    ((step.0, rest.0), λ s. rest.1 s ∙ ap (λ es. row_told from es s) (append_assoc before (e ∷ []) cs))
+    let rest = leads-on from (before ++ e ∷ []) cs leads.0 new
+        (omega (arith, length-append before (e ∷ []))) step.1 step.2 leads.2 in
+    ((step.0, rest.0), λ s. rest.1 s ∙ ap (λ es. row_told from es s)
+        (append_assoc before (e ∷ []) cs))
 
 sound-nil : IsSound 0 []
 unfolding is_ended tokens_given opening_count
-sound-nil s = inl record { open_still = refl; no_plugin = refl; none_counted_p = refl; no_agent = refl; none_counted_a = refl }
+sound-nil s = inl record { open_still = refl; no_plugin = refl; none_counted_p = refl; no_agent =
+    refl; none_counted_a = refl }
 
 shows-nil : Shows 0 [] []
 unfolding is_ended tokens_given opening_count

@@ -35,14 +35,17 @@ row_of-named (first ∷ rows) session row is =
     (same_name-true session first.session) (row_of-named rows session row) is
 
 -- an opening leaves the session of a row
-pub opened-named : (answer : Open) (role : Side) (row : Row) → (opened_row answer role row).session ≡ row.session
+pub opened-named : (answer : Open) (role : Side) (row : Row) → (opened_row answer role row).session
+    ≡ row.session
 opened-named answer Plugin row = refl
 opened-named answer Agent row = refl
 
 -- a call that found a row and put another in its place
-pub meets-put : (entry : Entry) (before mid after : Option (List Row)) (found : Option Row) (row : Row)
+pub meets-put : (entry : Entry) (before mid after : Option (List Row)) (found : Option Row)
+    (row : Row)
     → Finds before (session_of entry) found → mid ≡ before → Puts row mid after
-    → (((rows : List Row) → found ≡ row_of rows (session_of entry) → row.session ≡ session_of entry))
+    → (((rows : List Row) → found ≡ row_of rows (session_of entry)
+    → row.session ≡ session_of entry))
     → IsAnswered found entry → row_after entry found ≡ Some row
     → Meets entry before after
 meets-put entry None mid after found row finds same puts named answered becomes =
@@ -53,7 +56,8 @@ meets-put entry (Some rows) mid after found row finds same puts named answered b
     let after_is : row_after entry (row_of rows (session_of entry)) ≡ Some row =
     ap (row_after entry) (sym finds) ∙ becomes in (
       subst (λ (f : Option Row). IsAnswered f entry) finds answered,
-      (put.0, put.1, λ session. put.2 session ∙ (λ i. cond (same_name (is_named i) session) (sym after_is i) (row_of rows session))),
+      (put.0, put.1, λ session. put.2 session
+          ∙ (λ i. cond (same_name (is_named i) session) (sym after_is i) (row_of rows session))),
     )
 
 stays-by : (b : Bool) (rows : List Row) (asked session : List ℕ) (after : Option Row)
@@ -92,12 +96,15 @@ row_of-lookup (e ∷ es) session named =
     (Some e.1) (row_of-lookup es session named.1 i)
 
 -- a value that the map has is one of its rows
-pub lookup-kept : (test : List ℕ → Bool) (es : List (List ℕ × Row)) → AllByRecursion IsRow (rows_in es)
+pub lookup-kept : (test : List ℕ → Bool) (es : List (List ℕ × Row))
+    → AllByRecursion IsRow (rows_in es)
     → IfSome (lookup test es) IsRow
 lookup-kept test [] all = tt
-lookup-kept test (e ∷ es) all = kept (test e.0) e.1 (lookup test es) all.0 (lookup-kept test es all.1)
+lookup-kept test (e ∷ es) all = kept (test e.0) e.1 (lookup test es) all.0
+    (lookup-kept test es all.1)
   where
-    kept : (b : Bool) (row : Row) (found : Option Row) → IsRow row → IfSome found IsRow → IfSome (cond b (Some row) found) IsRow
+    kept : (b : Bool) (row : Row) (found : Option Row) → IsRow row → IfSome found IsRow
+        → IfSome (cond b (Some row) found) IsRow
     kept true row found here later = here
     kept false row found here later = later
 
@@ -125,4 +132,5 @@ pub row_of-insert : (old new : BTreeMap (List ℕ) Row) (row : Row) → AreNamed
 row_of-insert old new row was is updates session =
     row_of-lookup new.entries session is
     ∙ updates.0 session
-    ∙ (λ i. cond (same_name-key row.session session i) (Some row) (sym (row_of-lookup old.entries session was) i))
+    ∙ (λ i. cond (same_name-key row.session session i) (Some row)
+    (sym (row_of-lookup old.entries session was) i))
