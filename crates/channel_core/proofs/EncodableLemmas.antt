@@ -1,5 +1,5 @@
 -- What a legal history emits can be encoded, where each call was one that may be made.
-use Rattle.std.proofs.Common.{◌≡◌, ◌≢◌, ℕ, ◌-◌, ◌^◌, ◌<◌, ◌≤◌, max, cond, List, [], ◌∷◌, ◌++◌, ⊎_elim, subst, arith, eqb, length}
+use Rattle.std.proofs.Common.{◌≡◌, ◌≢◌, ℕ, ◌+◌, ◌-◌, ◌^◌, ◌<◌, ◌≤◌, max, cond, List, [], ◌∷◌, ◌++◌, ⊎_elim, subst, arith, eqb, length}
 use Rattle.std.specs.List.{All, cons_option}
 use Rattle.std.proofs.lemmas.Bool.{cond_both, eqb-false}
 use Rattle.std.proofs.lemmas.List.{append-nil, length_push}
@@ -19,23 +19,24 @@ use Rattle.channel_core.specs.Laws.{EmissionsCanBeEncoded}
 use Rattle.channel_core.specs.Legal.{IsAnswered, IsLegal, answer_to_put}
 use Rattle.channel_core.proofs.HistoryLemmas.{by_pushes, emissions-push, owed_acks-push, put_messages-push}
 use Rattle.channel_core.proofs.LegalLemmas.{All-pushed, IsLegal-pushed, by_cases}
+use Rattle.chan_values.specs.Limits.{max_seq}
 
 -- a put that got a number was below the limit
 put_room : (w : ℕ) (h : List Entry) (item : Item) (n : ℕ)
     → EndAnswer.Put (Put.Seq n) ≡ EndAnswer.Put (answer_to_put w h item)
-    → length (put_messages h) ≢ 2 ^ 63 - 1
+    → length (put_messages h) ≢ max_seq + 1
 unfolding answer_to_put
 put_room w h item n =
     let count = length (put_messages h) in
     let room : Put = cond (eqb (count - lowest_unacked h) w) (Put.Full item) (Put.Seq count) in
-    let left : Put = cond (eqb count (2 ^ 63 - 1)) (Put.Spent item) room in
+    let left : Put = cond (eqb count (max_seq + 1)) (Put.Spent item) room in
     let P : Put → Type 0
-    = λ put. EndAnswer.Put (Put.Seq n) ≡ EndAnswer.Put put → count ≢ 2 ^ 63 - 1 in
+    = λ put. EndAnswer.Put (Put.Seq n) ≡ EndAnswer.Put put → count ≢ max_seq + 1 in
     cond_both (is_closed h) (Put.Closed item) left P
     (λ _ never. cc)
-    (λ _. cond_both (eqb count (2 ^ 63 - 1)) (Put.Spent item) room P
+    (λ _. cond_both (eqb count (max_seq + 1)) (Put.Spent item) room P
     (λ _ never. cc)
-    (λ apart _. eqb-false count (2 ^ 63 - 1) apart))
+    (λ apart _. eqb-false count (max_seq + 1) apart))
 
 -- the message has a date, and its payload fits
 abbrev Fits : PutMessage → Type 0
@@ -47,7 +48,7 @@ IsSmall p = p.0 < 2 ^ 63
 
 -- messages, owed acknowledgements and emissions that are as they should be
 record Sound (put : List PutMessage) (owed : List (ℕ × List ℕ)) (out : List Outgoing) : Type 0 where
-  numbers : length put ≤ 2 ^ 63 - 1
+  numbers : length put ≤ max_seq + 1
   fit : All Fits put
   small : All IsSmall owed
   encodable : All CanBeEncoded out
@@ -138,7 +139,7 @@ step w h call answer sound answered =
     seq_room : (item : Item) (id : List ℕ) (now : ℕ)
         → IsAnswered w h (EndCall.Put item id now)
         (EndAnswer.Put (Put.Seq (length (put_messages h))))
-        → length (put_messages h) ≢ 2 ^ 63 - 1
+        → length (put_messages h) ≢ max_seq + 1
     seq_room item id now =
         ⊎_elim
         (λ is. put_room w h item (length (put_messages h)) is)

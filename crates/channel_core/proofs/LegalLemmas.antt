@@ -18,6 +18,7 @@ use Rattle.channel_core.specs.Numbers.{has_number, least_below, numbers_of}
 use Rattle.channel_core.specs.Resending.{is_eligible}
 use Rattle.channel_core.proofs.HistoryLemmas.{with_earlier-push}
 use Rattle.channel_core.proofs.NumberLemmas.{least_absent-is, least_below-some}
+use Rattle.chan_values.specs.Limits.{max_seq}
 
 -- what holds of each element and one more holds of those and of that one
 pub All-pushed : {X : Type 0} (P : X → Type 0) (xs : List X) (x : X)
@@ -77,10 +78,10 @@ put_cases w h item P closed spent full seq =
     let count = length (put_messages h) in
     let span = count - lowest_unacked h in
     let room : Put = cond (eqb span w) (Put.Full item) (Put.Seq count) in
-    let left : Put = cond (eqb count (2 ^ 63 - 1)) (Put.Spent item) room in
+    let left : Put = cond (eqb count (max_seq + 1)) (Put.Spent item) room in
     cond_both (is_closed h) (Put.Closed item) left P
     (λ _. closed)
-    (λ _. cond_both (eqb count (2 ^ 63 - 1)) (Put.Spent item) room P
+    (λ _. cond_both (eqb count (max_seq + 1)) (Put.Spent item) room P
     (λ _. spent)
     (λ _. cond_both (eqb span w) (Put.Full item) (Put.Seq count) P
     (λ _. full)

@@ -3,9 +3,9 @@ use Rattle.std.proofs.Common.{◌≡◌, ℕ, ◌+◌, ◌<◌, ◌≤◌, max, 
 use Rattle.std.specs.Option.{option_and_then, option_map}
 use Rattle.std.proofs.lemmas.Bool.{and_right, cases_lt, le-ltb, lt-ltb}
 use Rattle.std.proofs.lemmas.Option.{slice_get_within}
-use Rattle.resend_queue.specs.declared.out.Out.{Out}
-use Rattle.resend_queue.specs.declared.sent.Sent.{Sent}
-use Rattle.resend_queue.specs.Queue.{Pending, QueueState, after_out, first_eligible, is_eligible as may_go, out_of}
+use Rattle.resend_queue.specs.declared.answer.Out.{Out}
+use Rattle.resend_queue.specs.declared.answer.Sent.{Sent}
+use Rattle.resend_queue.specs.Queue.{Pending, QueueState, after_out, first_ready, is_ready, out_of}
 use Rattle.channel_core.specs.declared.call.EndAnswer.{EndAnswer}
 use Rattle.channel_core.specs.declared.call.EndCall.{EndCall}
 use Rattle.channel_core.specs.declared.pulling.Outgoing.{Outgoing}
@@ -91,7 +91,7 @@ pull_of Out.Idle = Pull.Idle
 pull_of Out.NoMemory = Pull.NoMemory
 
 -- a number may go where its message may
-may_go_at : (h : List Entry) (n : ℕ) → passes_at may_go (kept_at (sending h) n) ≡ is_eligible h n
+may_go_at : (h : List Entry) (n : ℕ) → passes_at is_ready (kept_at (sending h) n) ≡ is_eligible h n
 may_go_at h n = at (has_number (acked_numbers h) n) (slice_get (put_messages h) n) refl
   where
     within : Bool
@@ -101,7 +101,7 @@ may_go_at h n = at (has_number (acked_numbers h) n) (slice_get (put_messages h) 
     go = not (has_number (sent_since_opened h) n) || has_number (marked_due h) n
 
     at : (b : Bool) (o : Option PutMessage) → slice_get (put_messages h) n ≡ o
-        → passes_at may_go (cond b None (option_map (message_of (sending h) n) o)) ≡
+        → passes_at is_ready (cond b None (option_map (message_of (sending h) n) o)) ≡
         (ltb n (length (put_messages h)) &&
         (not b && (not (has_number (sent_since_opened h) n) || has_number (marked_due h) n)))
     at true o is = sym (and_right (ltb n (length (put_messages h))) false refl)
@@ -123,18 +123,18 @@ may_go_at h n = at (has_number (acked_numbers h) n) (slice_get (put_messages h) 
 -- the queue's answer is the one that the rules give
 emit_number-out : (h : List Entry)
     → emit_number h (least_below (is_eligible h) (length (put_messages h))) ≡ pull_of
-    (out_of (find may_go (kept_all (sending h))))
+    (out_of (find is_ready (kept_all (sending h))))
 emit_number-out h =
     sym (ap (λ (o : Option Pending). pull_of (out_of o))
-    (find-least may_go (kept_at (sending h)) (length (put_messages h))
+    (find-least is_ready (kept_at (sending h)) (length (put_messages h))
     ∙ ap (option_and_then (kept_at (sending h)))
-    (least_below-agree (λ n. passes_at may_go (kept_at (sending h) n)) (is_eligible h)
+    (least_below-agree (λ n. passes_at is_ready (kept_at (sending h) n)) (is_eligible h)
     (length (put_messages h)) (may_go_at h)))
     ∙ at (least_below (is_eligible h) (length (put_messages h)))
     (λ n is. (least_below-some (is_eligible h) (length (put_messages h)) n is).1))
   where
     message : (n : ℕ) (b : Bool) (o : Option PutMessage)
-        → passes_at may_go (cond b None (option_map (message_of (sending h) n) o)) ≡ true
+        → passes_at is_ready (cond b None (option_map (message_of (sending h) n) o)) ≡ true
         → pull_of (out_of (cond b None (option_map (message_of (sending h) n) o)))
         ≡ emit_message n o
     message n true o passes = cc
@@ -196,14 +196,14 @@ pub pull_out_goes : (w : ℕ) (h : List Entry) (now : ℕ) (out : Out) (old new 
     → (old.closed || not old.up) ≡ false
     → old.owed ≡ []
     → old.paused ≡ false
-    → (out ≡ out_of (first_eligible old.queue)) ⊎ (out ≡ Out.NoMemory)
+    → (out ≡ out_of (first_ready old.queue)) ⊎ (out ≡ Out.NoMemory)
     → new ≡ record old { queue = after_out old.queue now out }
     → Goes w h new (EndCall.Pull now) (EndAnswer.Pull (pull_of out))
 pull_out_goes w h now out old new legal s up owed paused answer is =
     ⊎_elim
-    (λ (same : out ≡ out_of (first_eligible old.queue)).
-    let found : out ≡ out_of (find may_go (kept_all (sending h))) = same
-    ∙ ap (λ (q : QueueState). out_of (first_eligible q)) (s.queue ∙ queue_after-is w h) in
+    (λ (same : out ≡ out_of (first_ready old.queue)).
+    let found : out ≡ out_of (find is_ready (kept_all (sending h))) = same
+    ∙ ap (λ (q : QueueState). out_of (first_ready q)) (s.queue ∙ queue_after-is w h) in
     let given : answer_to_pull w h now ≡ pull_of out
     = open_pull w h now (rw (← s.closed, ← s.up) up) ∙ ap (emit_next h now) (sym s.owed ∙ owed)
     ∙ rw (sym s.paused ∙ paused) (emit_number-out h ∙ ap pull_of (sym found)) in

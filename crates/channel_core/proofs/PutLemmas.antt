@@ -3,7 +3,7 @@ use Rattle.std.proofs.Common.{◌≡◌, ℕ, ◌+◌, ◌-◌, ◌^◌, max, Bo
 use Rattle.std.proofs.lemmas.Bool.{false_from_ne_true}
 use Rattle.std.proofs.lemmas.List.{length_push}
 use Rattle.chan_values.specs.declared.item.Item.{Item}
-use Rattle.resend_queue.specs.declared.kept.Kept.{Kept}
+use Rattle.resend_queue.specs.declared.answer.Kept.{Kept}
 use Rattle.resend_queue.specs.Queue.{Pending, QueueState, after_put, first_number, new_message, put_answer}
 use Rattle.channel_core.specs.declared.call.EndAnswer.{EndAnswer}
 use Rattle.channel_core.specs.declared.call.EndCall.{EndCall}
@@ -19,6 +19,7 @@ use Rattle.channel_core.proofs.SearchLemmas.{first_number-kept}
 use Rattle.channel_core.proofs.SendingLemmas.{IsOrderly, low-le, orderly, sending}
 use Rattle.channel_core.proofs.StandingLemmas.{Goes, IsStill, dues-same, nothing_goes, or-false, queue_after-is, queue_of, sending-put, step_goes}
 use Rattle.channel_core.proofs.StillLemmas.{put_closed_still, put_full_still, put_nomemory_still, put_spent_still}
+use Rattle.chan_values.specs.Limits.{max_seq}
 
 -- the answer of an end to a put
 abbrev pub put_of : Kept → Put
@@ -35,7 +36,7 @@ answer_to_put-kept : (w : ℕ) (h : List Entry) (item : Item) (dues : ℕ)
 unfolding answer_to_put
 answer_to_put-kept w h item dues unclosed order =
     rw (unclosed, first_number-kept (sending h) (low-le (sending h) order))
-    (through (eqb (length (put_messages h)) (2 ^ 63 - 1))
+    (through (eqb (length (put_messages h)) (max_seq + 1))
     (eqb (length (put_messages h) - lowest_unacked h) w) (length (put_messages h)))
   where
     through : (a b : Bool) (n : ℕ)
@@ -146,7 +147,7 @@ put_goes w h item id now kept old new legal s unclosed answer is =
     seq_is : (n : ℕ)
         → Kept.Seq n ≡ put_answer (queue_of w (sending h) (due_count h (lowest_unacked h))) item
         → n ≡ length (put_messages h)
-    seq_is n given = at (eqb (length (put_messages h)) (2 ^ 63 - 1))
+    seq_is n given = at (eqb (length (put_messages h)) (max_seq + 1))
         (eqb (length (put_messages h) - first_number (kept_all (sending h))
         (length (put_messages h))) w) given
       where

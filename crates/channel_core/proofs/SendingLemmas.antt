@@ -19,6 +19,7 @@ use Rattle.channel_core.proofs.HistoryLemmas.{acked_numbers-push, by_pushes, emi
 use Rattle.channel_core.proofs.LegalLemmas.{IsLegal-pushed, by_cases}
 use Rattle.channel_core.proofs.NumberLemmas.{has_number-append, has_number-kept, has_number-more, has_number-pushed, has_number-without, least_absent-grows, least_absent-le}
 use Rattle.channel_core.proofs.PendingLemmas.{Sending}
+use Rattle.resend_queue.specs.Queue.{max_dues}
 
 -- the numbers that this answer gives out
 abbrev pub numbers_out : EndAnswer → List ℕ
@@ -172,7 +173,7 @@ unfolding answer_to_tick
 due_answer h now n =
     let low = lowest_unacked h in
     let P : Tick → Type 0 = λ t. Tick.Due n ≡ t → IsExpired h n in
-    let gives : Tick = cond (leb 3000 (due_count h low)) (Tick.GaveUp low) (Tick.Due low) in
+    let gives : Tick = cond (leb max_dues (due_count h low)) (Tick.GaveUp low) (Tick.Due low) in
     let waits : Tick = cond (not (is_expired h low now)) Tick.Nothing gives in
     let none : Tick = cond (eqb low (length (put_messages h))) Tick.Nothing waits in
     cond_both (is_closed h || not (is_up h)) Tick.Nothing none P
@@ -181,7 +182,7 @@ due_answer h now n =
     (λ _. nothing)
     (λ _. cond_both (not (is_expired h low now)) Tick.Nothing gives P
     (λ _. nothing)
-    (λ expired. cond_both (leb 3000 (due_count h low)) (Tick.GaveUp low) (Tick.Due low) P
+    (λ expired. cond_both (leb max_dues (due_count h low)) (Tick.GaveUp low) (Tick.Due low) P
     (λ _. gave_up low)
     (λ _ is. due low is
     (and_parts (has_number (sent_since_opened h) low) _

@@ -1,7 +1,7 @@
 -- Ticks and looks: from what an end keeps to the entry that follows.
 use Rattle.std.proofs.Common.{◌≡◌, ℕ, ◌+◌, ◌-◌, ◌<◌, ◌≤◌, Bool, true, false, not, cond, ◌||◌, ◌&&◌, Some, None, List, [], ◌∷◌, ◌++◌, inl, ⊎_elim, refl, sym, ap, ◌∙◌, arith, length, leb, ltb}
 use Rattle.std.proofs.lemmas.Bool.{cases_lt, eq-eqb, ne_eqb}
-use Rattle.resend_queue.specs.declared.mark.Mark.{Mark}
+use Rattle.resend_queue.specs.declared.answer.Mark.{Mark}
 use Rattle.resend_queue.specs.Queue.{Pending, QueueState, after_mark, is_overdue, is_past, lowest, mark_answer}
 use Rattle.resend_queue.specs.RoundTrips.{RoundTrip}
 use Rattle.channel_core.specs.declared.call.EndAnswer.{EndAnswer}
@@ -19,6 +19,7 @@ use Rattle.channel_core.proofs.SearchLemmas.{first_number-kept, kept_all-first, 
 use Rattle.channel_core.proofs.SendingLemmas.{IsOrderly, due_answered, low-le, orderly, sending, sending_after}
 use Rattle.channel_core.proofs.StandingLemmas.{Goes, dues-same, nothing_goes, or-false, queue_after-is, queue_of, sending-still, step_goes, still_goes}
 use Rattle.channel_core.proofs.StillLemmas.{gave_up_still, look_still, nothing_still, or-true}
+use Rattle.resend_queue.specs.Queue.{max_dues}
 
 down_tick : (h : List Entry) (now : ℕ)
     → (is_closed h || not (is_up h)) ≡ true
@@ -80,7 +81,7 @@ answer_to_tick-mark w h now order up =
       first.3,
       overdue-expired h low now m order,
     )
-    (through (is_expired h low now) (leb 3000 (due_count h low))))
+    (through (is_expired h low now) (leb max_dues (due_count h low))))
     (λ (none : length (put_messages h) ≤ low).
     let same : low ≡ length (put_messages h) = let most = low-le (sending h) order in omega arith in
     rw (up, eq-eqb low (length (put_messages h)) same, kept_all-none (sending h) same) refl)

@@ -6,7 +6,7 @@ use Rattle.channel_core.specs.declared.pulling.Pull.{Pull}
 
 -- the number is below 2^63, the date isn't 0, and the payload is at most 65,536 bytes
 abbrev pub CanBeEncoded : Outgoing → Type 0
-CanBeEncoded (Outgoing.Stream sent) = queue.IsEncodable sent
+CanBeEncoded (Outgoing.Stream sent) = queue.IsTransmittable sent
 CanBeEncoded (Outgoing.Ack n id date) = (n < 2 ^ 63) × (0 < date)
 
 -- what a pull gives out, if anything

@@ -1,8 +1,10 @@
 -- Which answer each call gets after the entries before it, and which histories there may be.
-use Rattle.std.specs.Prelude.{◌≡◌, ℕ, ◌+◌, ◌-◌, ◌^◌, max, Bool, not, ◌&&◌, ◌||◌, ◌⊎◌, Option, Some, None, List, [], ◌∷◌, ◌++◌, length, if◌then◌else◌, nat_eq, nat_le, nat_lt, slice_get}
+use Rattle.std.specs.Prelude.{◌≡◌, ℕ, ◌+◌, ◌-◌, max, Bool, not, ◌&&◌, ◌||◌, ◌⊎◌, Option, Some, None, List, [], ◌∷◌, ◌++◌, length, if◌then◌else◌, nat_eq, nat_le, nat_lt, slice_get}
 use Rattle.std.specs.List.{All}
+use Rattle.chan_values.specs.Limits.{max_seq}
 use Rattle.chan_values.specs.declared.item.Item.{Item}
 use Rattle.receive_window.specs.Window.{items_in_order}
+use Rattle.resend_queue.specs.Queue.{max_dues}
 use Rattle.channel_core.specs.declared.call.EndAnswer.{EndAnswer}
 use Rattle.channel_core.specs.declared.call.EndCall.{EndCall}
 use Rattle.channel_core.specs.declared.hearing.Heard.{Heard}
@@ -21,7 +23,7 @@ use Rattle.channel_core.specs.Resending.{due_count, is_eligible, last_moment, ma
 unfoldable pub answer_to_put : ℕ → List Entry → Item → Put
 answer_to_put w h item =
     if is_closed h then Put.Closed item
-    else if nat_eq (length (put_messages h)) (2 ^ 63 - 1) then Put.Spent item
+    else if nat_eq (length (put_messages h)) (max_seq + 1) then Put.Spent item
     else if nat_eq (length (put_messages h) - lowest_unacked h) w then Put.Full item
     else Put.Seq (length (put_messages h))
 
@@ -89,14 +91,14 @@ is_expired h n now =
     && (not (has_number (marked_due h) n)
     && nat_lt (round_trip h).timeout (now - last_moment (transmissions h) n))
 
--- to a tick: it looks at the lowest unacknowledged number alone, and gives up after 3,000 times
+-- to a tick: it looks at the lowest unacknowledged number alone, and gives up after `max_dues` times
 unfoldable pub answer_to_tick : List Entry → ℕ → Tick
 answer_to_tick h now =
     let n = lowest_unacked h in
     if is_closed h || not (is_up h) then Tick.Nothing
     else if nat_eq n (length (put_messages h)) then Tick.Nothing
     else if not (is_expired h n now) then Tick.Nothing
-    else if nat_le 3000 (due_count h n) then Tick.GaveUp n
+    else if nat_le max_dues (due_count h n) then Tick.GaveUp n
     else Tick.Due n
 
 -- to a look

@@ -3,7 +3,7 @@
 use Rattle.std.specs.Prelude.{◌≡◌, ℕ, ◌<◌, ◌⊎◌, List, ◌∷◌, ◌++◌, length}
 use Rattle.std.specs.List.{All}
 use Rattle.chan_values.specs.declared.item.Item.{Item}
-use Rattle.resend_queue.specs.declared.sent.Sent.{Sent}
+use Rattle.resend_queue.specs.declared.answer.Sent.{Sent}
 use Rattle.channel_core.specs.declared.call.EndAnswer.{EndAnswer}
 use Rattle.channel_core.specs.declared.call.EndCall.{EndCall}
 use Rattle.channel_core.specs.declared.hearing.Heard.TheVariants as Heard

@@ -8,7 +8,7 @@ use Rattle.agent_message.specs.declared.message.Message.{Message}
 use Rattle.agent_message.specs.Layout.{canonical}
 use Rattle.json_bodies.specs.declared.ack.Ack.{Ack}
 use Rattle.json_bodies.specs.Ack.{ack_text}
-use Rattle.resend_queue.specs.declared.sent.Sent.{Sent}
+use Rattle.resend_queue.specs.declared.answer.Sent.{Sent}
 use Rattle.channel_core.specs.declared.pulling.Outgoing.{Outgoing}
 
 -- MessageType of the stream messages that a side sends

@@ -1,6 +1,6 @@
 use Rattle.std.proofs.Common.{refl, sym, ◌∙◌, ap, not}
 use Rattle.std.proofs.lemmas.Bool.{or_left, or_right, not_from_false}
-use Rattle.resend_queue.specs.declared.mark.Mark.{Mark}
+use Rattle.resend_queue.specs.declared.answer.Mark.{Mark}
 use Rattle.resend_queue.specs.Queue.{mark_answer}
 use Rattle.channel_core.proofs.TickLemmas.{tick_down_goes, tick_goes}
 use Rattle.channel_core.proofs.end.End.tick.Goals as goal
