@@ -1,0 +1,5 @@
+use Rattle.smux_streams.proofs.Lone.{bounds_law}
+use Rattle.smux_streams.proofs.laws.bounds_hold.Goals as goal
+
+pub returns : goal.returns
+returns c = bounds_law

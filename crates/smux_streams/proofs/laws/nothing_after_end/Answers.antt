@@ -1,0 +1,5 @@
+use Rattle.smux_streams.proofs.Lone.{end_law}
+use Rattle.smux_streams.proofs.laws.nothing_after_end.Goals as goal
+
+pub returns : goal.returns
+returns c = end_law
