@@ -1,5 +1,6 @@
 -- Acknowledgements that are heard: from what an end keeps to the entry that follows.
-use Rattle.std.proofs.Common.{◌≡◌, ◌≢◌, ℕ, ◌+◌, ◌-◌, Bool, true, false, not, cond, ◌&&◌, Option, Some, None, List, [], ◌∷◌, ◌++◌, inl, ⊎_elim, refl, sym, ap, ◌∙◌, arith, length, eqb, ltb, slice_get}
+use Rattle.std.proofs.Common.{◌≡◌, ◌≢◌, ℕ, ◌+◌, ◌-◌, Bool, true, false, not, cond, ◌&&◌, Option, Some, None, List, [], ◌∷◌, ◌++◌, inl, ⊎_elim, refl, sym, ap, subst, ◌∙◌, arith, length, eqb, slice_get}
+use Rattle.std.specs.List.Sorted.{IsPermutation}
 use Rattle.std.specs.Option.{option_and_then, option_map}
 use Rattle.std.proofs.lemmas.Grind.{fold-append}
 use Rattle.std.proofs.lemmas.Bool.{and_right, both_ways, cases_eq, eq-eqb, false_from_ne_true, ne_eqb}
@@ -7,7 +8,6 @@ use Rattle.std.proofs.lemmas.List.{append-nil}
 use Rattle.chan_values.specs.declared.item.Item.{Item}
 use Rattle.resend_queue.specs.Queue.{Pending, QueueState, first_number, moment_of, without_number}
 use Rattle.resend_queue.specs.RoundTrips.{RoundTrip, after_sample, after_samples, no_sample}
-use Rattle.receive_window.specs.Window.{item_with}
 use Rattle.channel_core.specs.declared.call.EndAnswer.{EndAnswer}
 use Rattle.channel_core.specs.declared.call.EndCall.{EndCall}
 use Rattle.channel_core.specs.declared.hearing.Heard.{Heard}
@@ -18,6 +18,7 @@ use Rattle.channel_core.specs.Legal.{IsAnswered, IsLegal, answer_to_ack, answer_
 use Rattle.channel_core.specs.Numbers.{has_number, least_absent, numbers_of}
 use Rattle.channel_core.specs.Resending.{due_count, last_moment, round_trip, round_trip_samples, transmissions}
 use Rattle.channel_core.specs.Stands.{EndState, Stands}
+use Rattle.channel_core.proofs.EarlyLemmas.{early_of}
 use Rattle.channel_core.proofs.HistoryLemmas.{acked_numbers-push}
 use Rattle.channel_core.proofs.NumberLemmas.{least_absent-grows, least_absent-is, least_absent-unique, has_number-last, has_number-more, has_number-other}
 use Rattle.channel_core.proofs.PendingLemmas.{Sending, kept_all, kept_all-acked, kept_at, message_of}
@@ -204,10 +205,10 @@ acked_goes w h now n moment old new legal s unclosed some is =
       window = rw is s.window;
       expected = rw is
           (s.expected ∙ ap (λ (l : List (ℕ × Item)). least_absent (numbers_of l)) (sym taken));
-      early = λ k. rw is
-          (s.early k ∙ ap
-          (λ (l : List (ℕ × Item)). cond (ltb k (least_absent (numbers_of l))) None (item_with l k))
-          (sym taken));
+      early = rw is
+          (subst
+          (λ (l : List (ℕ × Item)). IsPermutation (early_of l) old.received.early)
+          (sym taken) s.early);
       estimate = rw is estimate;
       owed = rw is s.owed;
       up = rw is s.up;

@@ -11,6 +11,7 @@ use Rattle.channel_core.specs.History.{is_closed, next_in_order, owed_with, take
 use Rattle.channel_core.specs.Legal.{IsLegal, answer_to_heard, answer_to_incoming}
 use Rattle.channel_core.specs.Numbers.{has_number, numbers_of}
 use Rattle.channel_core.specs.Stands.{EndState, Stands}
+use Rattle.channel_core.proofs.EarlyLemmas.{early_known}
 use Rattle.channel_core.proofs.StandingLemmas.{Goes, nothing_goes, or-false, still_goes}
 use Rattle.std.specs.Option.{is_some}
 use Rattle.std.proofs.lemmas.Bool.{le-leb, lt-leb}
@@ -33,12 +34,14 @@ is_some-item_with (p ∷ items) n =
     (cases_Bool (eqb n p.0))
 
 -- what an end knows of a number is what the history tells
-pub is_taken-is : (w : ℕ) (h : List Entry) (old : EndState) (n : ℕ) → Stands w old h
+pub is_taken-is : (w : ℕ) (h : List Entry) (old : EndState) (n : ℕ)
+    → IsLegal w h
+    → Stands w old h
     → is_taken old.received n ≡
     (ltb n (next_in_order h) || has_number (numbers_of (taken_items h)) n)
-is_taken-is w h old n s =
+is_taken-is w h old n legal s =
     ap (λ (k : ℕ). ltb n k || is_some (item_with old.received.early n)) s.expected
-    ∙ ap (λ (o : Option Item). ltb n (next_in_order h) || is_some o) (s.early n)
+    ∙ ap (λ (o : Option Item). ltb n (next_in_order h) || is_some o) (early_known w h old legal s n)
     ∙ at (ltb n (next_in_order h))
   where
     at : (b : Bool)
@@ -82,7 +85,7 @@ pub late_goes : (w : ℕ) (h : List Entry) (now n : ℕ) (id : List ℕ) (item :
     → Goes w h new (stream_call now n id item) (EndAnswer.Heard Heard.Late)
 late_goes w h now n id item old new legal s unclosed taken is =
     let known : (ltb n (next_in_order h) || has_number (numbers_of (taken_items h)) n) ≡ true
-    = sym (is_taken-is w h old n s) ∙ taken in
+    = sym (is_taken-is w h old n legal s) ∙ taken in
     still_goes w h old new (stream_call now n id item) (EndAnswer.Heard Heard.Late) legal s
     (inl (ap (λ (a : Heard). EndAnswer.Heard a)
     (sym (open_heard w h (Incoming.Stream n id item) (sym s.closed ∙ unclosed)
@@ -101,7 +104,7 @@ pub beyond_goes : (w : ℕ) (h : List Entry) (now n : ℕ) (id : List ℕ) (item
     → Goes w h new (stream_call now n id item) (EndAnswer.Heard Heard.Beyond)
 beyond_goes w h now n id item old new legal s unclosed untaken far is =
     let new_number : (ltb n (next_in_order h) || has_number (numbers_of (taken_items h)) n) ≡ false
-    = sym (is_taken-is w h old n s) ∙ untaken in
+    = sym (is_taken-is w h old n legal s) ∙ untaken in
     let beyond : next_in_order h + w ≤ n = let a = s.expected in let b = s.window in omega arith in
     nothing_goes w h old new (stream_call now n id item) (EndAnswer.Heard Heard.Beyond) legal s is
     (inl (ap (λ (a : Heard). EndAnswer.Heard a)

@@ -3,6 +3,7 @@ pub mod AgreementLemmas
 pub mod ArrivalLemmas
 pub mod CountLemmas
 pub mod DeliveryLemmas
+pub mod EarlyLemmas
 pub mod EncodableLemmas
 mod Examples
 pub mod ExchangeLemmas

@@ -1,5 +1,5 @@
 -- A stream message that is taken: from what an end keeps to the entry that follows.
-use Rattle.std.proofs.Common.{◌≡◌, ℕ, ◌+◌, ◌-◌, ◌<◌, ◌≤◌, Bool, true, false, cond, ◌||◌, Option, Some, None, List, [], ◌∷◌, ◌++◌, inl, ⊎_elim, refl, sym, ap, ◌∙◌, arith, eqb, ltb}
+use Rattle.std.proofs.Common.{◌≡◌, ◌≢◌, ℕ, ◌+◌, ◌-◌, ◌<◌, ◌≤◌, Bool, true, false, cond, ◌||◌, Option, Some, None, List, [], ◌∷◌, ◌++◌, inl, ⊎_elim, refl, sym, ap, ◌∙◌, arith, eqb, ltb}
 use Rattle.std.proofs.lemmas.Bool.{cases_eq, cases_lt, eq-eqb, false_from_ne_true, le-ltb, lt-ltb, ne_eqb}
 use Rattle.std.proofs.lemmas.List.{append-nil}
 use Rattle.chan_values.specs.declared.item.Item.{Item}
@@ -23,8 +23,11 @@ use Rattle.std.proofs.lemmas.Bool.{or_parts}
 use Rattle.receive_window.specs.declared.take.Take.{Take}
 use Rattle.receive_window.specs.Window.{Releases, WindowState, is_taken, item_with, items_in_order}
 use Rattle.channel_core.specs.Legal.{items_released_by}
-use Rattle.channel_core.specs.Stands.{early_item}
-use Rattle.channel_core.proofs.ItemLemmas.{filter_map-agree, item_with-append, numbers_of-append}
+use Rattle.std.proofs.lemmas.List.Kept.{AllPairs-filter}
+use Rattle.std.proofs.lemmas.List.Quantifiers.{all_pairs_push}
+use Rattle.channel_core.proofs.EarlyLemmas.{early_known, early_of, item_with-early, same_items}
+use Rattle.channel_core.proofs.ItemLemmas.{filter_map-agree, item_with-append, numbers_apart, numbers_of-append}
+use Rattle.channel_core.proofs.SoundLemmas.{sound}
 use Rattle.channel_core.proofs.HearingLemmas.{is_some-item_with, is_taken-is, open_heard, released_is, stream_call}
 
 -- what is there of the first value, or else of none
@@ -38,12 +41,13 @@ no_item (Some item) none = cc
 
 -- the items from the next number on, with the new one, are those that the history tells
 arrived-is : (w : ℕ) (h : List Entry) (n : ℕ) (item : Item) (old : EndState)
+    → IsLegal w h
     → Stands w old h
     → has_number (numbers_of (taken_items h)) n ≡ false
     → (k : ℕ)
     → next_in_order h ≤ k
     → item_with ((n, item) ∷ old.received.early) k ≡ item_with (taken_items h ++ (n, item) ∷ []) k
-arrived-is w h n item old s new k above =
+arrived-is w h n item old legal s new k above =
     ⊎_elim
     (λ (here : k ≡ n).
     let absent : item_with (taken_items h) k ≡ None
@@ -52,11 +56,11 @@ arrived-is w h n item old s new k above =
     rw yes (sym (item_with-append (taken_items h) ((n, item) ∷ []) k ∙ rw (absent, yes) refl)))
     (λ (other : k ≡ n → ⊥).
     let no : eqb k n ≡ false = ne_eqb k n other in
-    let early : early_item h k ≡ item_with (taken_items h) k
-    = rw (le-ltb k (next_in_order h) above) refl in
+    let early : item_with old.received.early k ≡ item_with (taken_items h) k
+    = early_known w h old legal s k ∙ rw (le-ltb k (next_in_order h) above) refl in
     let alone : or_else (item_with (taken_items h) k) (item_with ((n, item) ∷ []) k) ≡ item_with
     (taken_items h) k = rw no (or_else-none (item_with (taken_items h) k)) in
-    rw no (s.early k ∙ early ∙ sym (item_with-append (taken_items h) ((n, item) ∷ []) k ∙ alone)))
+    rw no (early ∙ sym (item_with-append (taken_items h) ((n, item) ∷ []) k ∙ alone)))
     (cases_eq k n)
 
 pub released_goes : (w : ℕ) (h : List Entry) (now n : ℕ) (id : List ℕ) (item : Item)
@@ -82,12 +86,12 @@ released_goes w h now n id item items received old new legal s unclosed untaken 
     let expected : old.received.expected ≡ reach = s.expected in
     let window : old.received.window ≡ w = s.window in
     let new_number : (ltb n reach || has_number (numbers_of taken) n) ≡ false
-    = sym (is_taken-is w h old n s) ∙ untaken in
+    = sym (is_taken-is w h old n legal s) ∙ untaken in
     let absent : has_number (numbers_of taken) n ≡ false
     = (or_parts (ltb n reach) (has_number (numbers_of taken) n) new_number).1 in
     let within : n < reach + w = omega arith in
     let same : (k : ℕ) → reach ≤ k → item_with arrived k ≡ item_with more k
-    = arrived-is w h n item old s absent in
+    = arrived-is w h n item old legal s absent in
     let grows : reach ≤ to = let g = r.grows in omega arith in
     let reached : least_absent (numbers_of more) ≡ to = least_absent-unique (numbers_of more) to
     (sym (is_some-item_with more to) ∙ ap is_some (sym (same to grows) ∙ r.missing))
@@ -119,9 +123,17 @@ released_goes w h now n id item items received old new legal s unclosed untaken 
           ∙ ap (λ (t : Sending). queue_of w t after) (sym (sending-still (sending h))));
       window = rw is (r.window ∙ window);
       expected = rw is (sym reached);
-      early = λ k. rw is
-          (r.early k ∙ later k more arrived same grows
-          ∙ ap (λ (l : ℕ). cond (ltb k l) None (item_with more k)) (sym reached));
+      early = rw is
+          (same_items (early_of more) received.early
+          (AllPairs-filter (λ (p q : ℕ × Item). p.0 ≢ q.0)
+          (λ p. ltb (least_absent (numbers_of more)) p.0) more
+          (all_pairs_push
+          (λ (p q : ℕ × Item). p.0 ≢ q.0) taken (n, item)
+          (sound w h legal).once (numbers_apart taken n absent)))
+          r.different
+          (λ k. item_with-early more k
+          ∙ ap (λ (l : ℕ). cond (ltb k l) None (item_with more k)) reached
+          ∙ sym (r.early k ∙ later k more arrived same grows)));
       estimate = rw is (s.estimate ∙ ap after_samples (sym (append-nil (round_trip_samples h))));
       owed = rw is
           (ap (λ (k : ℕ). owed_with k old.owed n id) window

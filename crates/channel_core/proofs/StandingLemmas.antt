@@ -1,11 +1,13 @@
 -- What an end keeps, one entry on.
-use Rattle.std.proofs.Common.{◌≡◌, ℕ, ◌+◌, Bool, true, false, cond, ◌||◌, Option, None, List, [], ◌∷◌, ◌++◌, refl, sym, ap, ◌∙◌, arith, length, ltb}
+use Rattle.std.proofs.Common.{◌≡◌, ℕ, ◌+◌, Bool, true, false, cond, ◌||◌, Option, None, List, [], ◌∷◌, ◌++◌, refl, sym, ap, subst, ◌∙◌, arith, length}
 use Rattle.std.specs.List.{cons_option}
+use Rattle.std.specs.List.Sorted.{IsPermutation}
 use Rattle.std.proofs.lemmas.List.{append-nil}
+use Rattle.std.proofs.lemmas.List.Sorted.{IsPermutation-refl}
 use Rattle.chan_values.specs.declared.item.Item.{Item}
 use Rattle.resend_queue.specs.Queue.{Pending, QueueState, empty_queue}
 use Rattle.resend_queue.specs.RoundTrips.{after_samples, no_sample}
-use Rattle.receive_window.specs.Window.{WindowState, empty_window, item_with}
+use Rattle.receive_window.specs.Window.{WindowState, empty_window}
 use Rattle.channel_core.specs.declared.call.EndAnswer.{EndAnswer}
 use Rattle.channel_core.specs.declared.call.EndCall.{EndCall}
 use Rattle.channel_core.specs.Call.{Entry, with_earlier}
@@ -14,6 +16,7 @@ use Rattle.channel_core.specs.Legal.{IsAnswered, IsLegal}
 use Rattle.channel_core.specs.Numbers.{least_absent, numbers_of}
 use Rattle.channel_core.specs.Resending.{due_count, is_due, round_trip_samples, sample_of}
 use Rattle.channel_core.specs.Stands.{EndState, Stands, queue_after}
+use Rattle.channel_core.proofs.EarlyLemmas.{early_of}
 use Rattle.channel_core.proofs.HistoryLemmas.{acked_numbers-push, is_closed-push, is_paused-push, is_up-push, owed_acks-push, round_trip_samples-push, taken_items-push}
 use Rattle.channel_core.proofs.LegalLemmas.{IsLegal-push}
 use Rattle.channel_core.proofs.PendingLemmas.{Sending, kept_all, kept_all-unacked}
@@ -43,9 +46,7 @@ pub record Keeps (w : ℕ) (end : EndState) (h : List Entry) (e : Entry) : Type 
       (due_count (h ++ e ∷ []) (lowest_unacked (h ++ e ∷ [])))
   pub window : end.received.window ≡ w
   pub expected : end.received.expected ≡ least_absent (numbers_of (taken_after h e))
-  pub early : (n : ℕ)
-      → item_with end.received.early n ≡ cond
-      (ltb n (least_absent (numbers_of (taken_after h e)))) None (item_with (taken_after h e) n)
+  pub early : IsPermutation (early_of (taken_after h e)) end.received.early
   pub estimate : end.estimate ≡ after_samples
       (round_trip_samples h ++ cons_option (sample_of h e.answer e.call) [])
   pub owed : end.owed ≡ owed_after w (owed_acks w h) e.answer e.call
@@ -70,9 +71,9 @@ stands w end h e k =
           ∙ sym (queue_after-is w (h ++ e ∷ []));
       window = k.window;
       expected = k.expected ∙ ap (λ (l : List (ℕ × Item)). least_absent (numbers_of l)) (sym taken);
-      early = λ n. k.early n ∙ ap
-          (λ (l : List (ℕ × Item)). cond (ltb n (least_absent (numbers_of l))) None (item_with l n))
-          (sym taken);
+      early = subst
+          (λ (l : List (ℕ × Item)). IsPermutation (early_of l) end.received.early)
+          (sym taken) k.early;
       estimate = k.estimate ∙ ap after_samples (sym (round_trip_samples-push h e));
       owed = k.owed ∙ sym (owed_acks-push w h e);
       up = k.up ∙ sym (is_up-push h e);
@@ -125,9 +126,11 @@ step_goes w h old new call answer legal s answered takes_none samples_none queue
       window = ap (λ (r : WindowState). r.window) received ∙ s.window;
       expected = ap (λ (r : WindowState). r.expected) received ∙ s.expected
           ∙ ap (λ (l : List (ℕ × Item)). least_absent (numbers_of l)) (sym taken);
-      early = λ n. ap (λ (r : WindowState). item_with r.early n) received ∙ s.early n
-          ∙ ap (λ (l : List (ℕ × Item)). cond (ltb n (least_absent (numbers_of l))) None
-          (item_with l n)) (sym taken);
+      early = subst
+          (λ (r : WindowState). IsPermutation (early_of (taken_after h e)) r.early) (sym received)
+          (subst
+          (λ (l : List (ℕ × Item)). IsPermutation (early_of l) old.received.early)
+          (sym taken) s.early);
       estimate = estimate ∙ s.estimate ∙ ap after_samples
           (sym (ap (λ (o : Option ℕ). round_trip_samples h ++ cons_option o []) samples_none
           ∙ append-nil (round_trip_samples h)));
@@ -265,10 +268,6 @@ nothing_goes w h old new call answer legal s same answered still owed up paused 
 
 -- ---- a new end
 
-none_early : (b : Bool) → cond {A = Option Item} b None None ≡ None
-none_early true = refl
-none_early false = refl
-
 -- a new end stands for no calls
 pub stands_nil : (w : ℕ) (end : EndState)
     → end ≡ record {
@@ -286,7 +285,7 @@ stands_nil w end is = rw is (record {
   queue = refl;
   window = refl;
   expected = refl;
-  early = λ n. sym (none_early (ltb n 0));
+  early = IsPermutation-refl [];
   estimate = refl;
   owed = refl;
   up = refl;

@@ -1,16 +1,16 @@
 -- What an end keeps, and the histories that it stands for.
-use Rattle.std.specs.Prelude.{◌≡◌, ℕ, ◌^◌, ◌<◌, Bool, Option, Some, None, List, [], ◌∷◌, ◌++◌, length, if◌then◌else◌, nat_lt, slice_get}
+use Rattle.std.specs.Prelude.{◌≡◌, ℕ, ◌^◌, ◌<◌, Bool, Some, None, List, [], ◌∷◌, ◌++◌, length, if◌then◌else◌, slice_get}
 use Rattle.std.specs.List.{filter_map}
+use Rattle.std.specs.List.Sorted.{IsPermutation}
 use Rattle.std.specs.Option.{option_map}
-use Rattle.chan_values.specs.declared.item.Item.{Item}
 use Rattle.resend_queue.specs.Queue.{Pending, QueueState}
 use Rattle.resend_queue.specs.RoundTrips.{RoundTrip}
-use Rattle.receive_window.specs.Window.{WindowState, item_with}
+use Rattle.receive_window.specs.Window.{WindowState}
 use Rattle.channel_core.specs.declared.call.EndAnswer.{EndAnswer}
 use Rattle.channel_core.specs.declared.call.EndCall.{EndCall}
 use Rattle.channel_core.specs.declared.hearing.Incoming.{Incoming}
 use Rattle.channel_core.specs.Call.{Entry}
-use Rattle.channel_core.specs.History.{PutMessage, emitted_numbers, is_closed, is_paused, is_up, lowest_unacked, next_in_order, owed_acks, put_messages, taken_items, unacked_numbers}
+use Rattle.channel_core.specs.History.{PutMessage, early_items, emitted_numbers, is_closed, is_paused, is_up, lowest_unacked, next_in_order, owed_acks, put_messages, unacked_numbers}
 use Rattle.channel_core.specs.Legal.{IsLegal}
 use Rattle.channel_core.specs.Numbers.{has_number}
 use Rattle.channel_core.specs.Resending.{due_count, last_moment, marked_due, round_trip, sent_since_opened, transmissions}
@@ -59,16 +59,13 @@ queue_after w h =
       dues = due_count h (lowest_unacked h);
     }
 
--- the early item with this number that the entries leave
-abbrev pub early_item : List Entry → ℕ → Option Item
-early_item h n = if nat_lt n (next_in_order h) then None else item_with (taken_items h) n
-
 -- an end with the window w keeps what the entries tell
 pub record Stands (w : ℕ) (end : EndState) (h : List Entry) : Type 0 where
   pub queue : end.queue ≡ queue_after w h
   pub window : end.received.window ≡ w
   pub expected : end.received.expected ≡ next_in_order h
-  pub early : (n : ℕ) → item_with end.received.early n ≡ early_item h n
+  -- the items that were taken out of order and wait, in some order
+  pub early : IsPermutation (early_items h) end.received.early
   pub estimate : end.estimate ≡ round_trip h
   pub owed : end.owed ≡ owed_acks w h
   pub up : end.up ≡ is_up h
