@@ -81,7 +81,7 @@ stand bytes a b c d e f g h i j k l are is =
     }
 
 -- a list is a part and what is left behind it
-part : (bytes : List ℕ) (at n : ℕ)
+pub part : (bytes : List ℕ) (at n : ℕ)
     → drop at bytes ≡ slice_range bytes at (at + n) ++ drop (at + n) bytes
 part bytes at n =
     let size : at + n - at ≡ n = omega arith in

@@ -184,7 +184,7 @@ IsMessage-message_in bytes fits long valid = record {
 }
 
 -- four bytes are those of their number
-four : (bytes : List ℕ) (at : ℕ) → IsBytes bytes → at + 4 ≤ length bytes
+pub four : (bytes : List ℕ) (at : ℕ) → IsBytes bytes → at + 4 ≤ length bytes
     → slice_range bytes at (at + 4) ≡ to_be_bytes w32 (number_at w32 at bytes)
 four bytes at fits within =
     sym (be_bytes_4 (slice_range bytes at (at + 4)) _ (length-part bytes at 4 within)

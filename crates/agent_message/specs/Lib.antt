@@ -1,3 +1,7 @@
+pub mod CaptureCauses
+pub mod CaptureFronts
+pub mod CaptureReading
+pub mod Captures
 pub mod Decoding
 pub mod Fields
 pub mod Heads
