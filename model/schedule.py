@@ -57,11 +57,17 @@ class Writer:
         if self.random.random() < 0.02:
             return str(self.random.choice(EDGES[:-1]))
         if verb == "at":
-            before = self.ends.now - self.random.choice((1, 500))
-            step = self.random.choice(STEPS)
-            after = min(self.ends.now + step, 2**64 - 1)
-            return str(max(0, before if self.random.random() < 0.05 else after))
+            return str(self.some_moment(self.ends.ends[side]))
         return str(self.random.choice((0, 0, 0, 1, 2, 30, 174, 175)))
+
+    def some_moment(self, end):
+        """A step on, seldom one back, and often the last moment before or the first after a timeout."""
+        draw = self.random.random()
+        if draw < 0.05:
+            return max(0, self.ends.now - self.random.choice((1, 500)))
+        if draw < 0.3 and end.low in end.sent_at:
+            return end.sent_at[end.low] + end.estimate.timeout + self.random.choice((0, 1))
+        return min(self.ends.now + self.random.choice(STEPS), 2**64 - 1)
 
     def some_which(self, verb, side):
         if verb == "take":
@@ -104,14 +110,35 @@ class Writer:
     def some_take_size(self, verb, side):
         return str(self.random.choice((1, 2, 3, 100, 65_535, 65_536)))
 
-    def add_unheard(self):
-        """A message that is never acknowledged, with so many timers that its end gives up."""
+    def add_round_trips(self):
+        """Messages that are acknowledged, the first ones late, and timers at the edges of timeouts."""
         side = self.random.choice("PA")
-        self.add(f"put {side} 2 00")
-        for _ in range(3_002):
+        end, latest = self.ends.ends[side], self.random.choice((500, 600_001, 700_000))
+        for trip in range(self.random.choice((3, 20, 90))):
+            self.add(f"put {side} 1 00")
             self.add(f"pull {side}")
-            self.add(f"at {self.ends.now + 1_001}")
-            self.add(f"tick {side}")
+            self.add(f"hear {OTHER[side]} last")
+            self.add(f"pull {OTHER[side]}")
+            edges = (0, 1) if self.random.random() < 0.1 and end.low in end.sent_at else ()
+            for late in edges:
+                self.add(f"at {end.sent_at[end.low] + end.estimate.timeout + late}")
+                self.add(f"tick {side}")
+            passing = latest if trip < 2 else self.random.choice((0, 7, 40, 300))
+            self.add(f"at {self.ends.now + passing}")
+            self.add(f"hear {side} last")
+
+    def add_unheard(self):
+        """A message that is acknowledged late, after many timers, and one that never is, with so many
+        that its end gives up."""
+        side = self.random.choice("PA")
+        for rounds in (self.random.choice((1, 1_000)), 3_002):
+            self.add(f"put {side} 2 00")
+            for _ in range(rounds):
+                self.add(f"pull {side}")
+                self.add(f"at {self.ends.now + 1_001}")
+                self.add(f"tick {side}")
+            if rounds < 3_000:
+                self.add("settle")
 
     def add_pushed(self, side, count):
         """Outgoing bytes of a link reach the other end."""
@@ -174,6 +201,8 @@ def some_script(random, mode, modes):
         writer.add_many_streams()
     if mode == "streams" and random.random() < 0.003:
         writer.add_held_to_the_brim()
+    if mode != "relay" and random.random() < 0.1:
+        writer.add_round_trips()
     for _ in range(random.choice((0, 3, 10, 30, 60, 60, 120, 400))):
         writer.add_random()
     if mode != "relay" and random.random() < 0.003:
@@ -207,8 +236,10 @@ def some_capture(random):
 def some_input(seed, modes):
     """The words and the input of this seed."""
     random = Random(seed)
-    if random.random() < 0.05:
-        return random.choices(STRANGE_WORDS, k=random.randint(1, 4)), b"put P 1 61\npull P\n"
+    if random.random() < 0.1:
+        begin = [b"--window"] if random.random() < 0.7 else []
+        words = begin + random.choices(STRANGE_WORDS, k=random.choice((1, 1, 1, 1, 2, 3)))
+        return words, b"put P 1 61\npull P\n"
     mode = random.choice(["plain"] + [mode for mode in modes if mode != "last"])
     if mode == "show":
         return some_capture(random)
