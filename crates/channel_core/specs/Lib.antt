@@ -7,6 +7,7 @@ pub mod History
 pub mod Laws
 pub mod Legal
 pub mod Numbers
+pub mod Owed
 pub mod Resending
 pub mod Since
 pub mod Stands

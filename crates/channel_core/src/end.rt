@@ -16,19 +16,18 @@
 
 ghost use Rattle.std.specs.Prelude.{◌≡◌, ◌≤◌, ◌<◌, ◌^◌, ℕ, false, [], IfOk, length};
 ghost use Rattle.chan_values.specs.Limits.{max_payload, max_window};
-ghost use Rattle.channel_core.specs.Encodable.{IfEmitted, CanBeEncoded};
+ghost use Rattle.channel_core.specs.Encodable.{CanBeEncoded, IfEmitted};
 ghost use Rattle.channel_core.specs.Stands.{Follows, IsNumbered, Stands};
 ghost use Rattle.channel_core.specs.declared.call.EndAnswer.TheVariants as EndAnswer;
 ghost use Rattle.channel_core.specs.declared.call.EndCall.TheVariants as EndCall;
 ghost use Rattle.channel_core.specs.declared.hearing.Incoming.TheVariants as Incoming;
 
-use crate::owed::owe;
+use crate::owed::Owed;
 use crate::{Heard, Incoming, Look, Outgoing, Pull, Put, Tick};
 use chan_values::{Item, NoMemory, Side};
 use receive_window::{Take, Window};
 use resend_queue::{Estimate, Kept, Mark, Out, Queue};
 use std::alloc::Global;
-use std::collections::VecDeque;
 use std::marker::Model;
 
 /// One end of the data channel. It holds no clock and no connection.
@@ -38,17 +37,14 @@ pub struct End {
     queue: Queue,
     received: Window,
     estimate: Estimate,
-    owed: VecDeque<(u64, [u8; 16])>,
+    owed: Owed,
     up: bool,
     paused: bool,
     closed: bool,
 }
 
 impl Model for End {
-    ghost use Rattle.std.specs.Prelude.{◌≡◌, ◌≤◌, ◌<◌, ◌^◌, All};
-    ghost use Rattle.std.specs.VecDeque.{deque_capacity};
-    ghost use Rattle.chan_values.specs.Limits.{max_payload, max_window};
-    ghost use Rattle.channel_core.specs.Encodable.{IfEmitted, CanBeEncoded};
+    ghost use Rattle.std.specs.Prelude.{◌≡◌};
     ghost use Rattle.channel_core.specs.Stands.{EndState};
 
     ghost Value = { EndState };
@@ -57,16 +53,13 @@ impl Model for End {
       queue = e.queue;
       received = e.received;
       estimate = e.estimate;
-      owed = e.owed.items;
+      owed = e.owed.acks;
       up = e.up;
       paused = e.paused;
       closed = e.closed;
     } };
 
-    ghost invariant = { λ e.
-        (e.received.window ≡ e.window)
-        × (e.window ≤ deque_capacity e.owed)
-        × All (λ p. p.0 < 2 ^ 63) e.owed.items };
+    ghost invariant = { λ e. (e.received.window ≡ e.window) × (e.owed.limit ≡ e.window) };
 }
 
 impl End {
@@ -82,7 +75,7 @@ impl End {
             queue: Queue::new(alloc, window)?,
             received: Window::new(alloc, window)?,
             estimate: Estimate::new(),
-            owed: VecDeque::with_capacity(alloc, window as usize)?,
+            owed: Owed::new(alloc, window)?,
             up: false,
             paused: false,
             closed: false,
@@ -136,7 +129,7 @@ impl End {
         if self.closed || !self.up {
             return Pull::Idle;
         }
-        if let Some(ack) = self.owed.pop_front() {
+        if let Some(ack) = self.owed.pop() {
             let (seq, id) = ack;
             return Pull::Emit(Outgoing::Ack {
                 seq,
@@ -190,11 +183,11 @@ impl End {
     {
         match self.received.take(seq, item) {
             Take::Released(items) => {
-                owe(&mut self.owed, self.window, seq, id);
+                self.owed.note(seq, id);
                 Heard::Released(items)
             }
             Take::Late => {
-                owe(&mut self.owed, self.window, seq, id);
+                self.owed.note(seq, id);
                 Heard::Late
             }
             Take::Beyond => Heard::Beyond,

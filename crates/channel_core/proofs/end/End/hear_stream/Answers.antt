@@ -19,7 +19,7 @@ returns-in-Released c now w h legal s =
     (inside c.args.seq (before.received.expected + before.received.window) (Take.Released items)
     (released-beyond items) known.beyond.1))
     (rw (← c.self.view_is) known.released)
-    (rw (← c.self.view_is, c.owe.ensures.owed, ← c.self.invariant.0) refl)
+    (rw (← c.self.view_is, c.note.ensures, c.self.invariant.1, ← c.self.invariant.0) refl)
 
 pub returns-in-Late : goal.returns-in-Late
 returns-in-Late c now w h legal s =
@@ -27,8 +27,9 @@ returns-in-Late c now w h legal s =
     (rw (← c.self.view_is) (c.in-Late.ensures.late.0 refl))
     (rw (
       ← c.self.view_is,
-      c.owe-in-Late.ensures.owed,
+      c.note-in-Late.ensures,
       c.in-Late.ensures.refused,
+      c.self.invariant.1,
       ← c.self.invariant.0,
     ) refl)
 

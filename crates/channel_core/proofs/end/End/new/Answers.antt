@@ -8,5 +8,5 @@ returns c = stands_nil c.args.window _
       c.in_ok-new.ensures,
       c.in_ok-new-2.ensures,
       c.new-3.ensures,
-      c.in_ok-with_capacity.ensures.items,
+      c.in_ok-new-3.ensures,
     ) refl)
