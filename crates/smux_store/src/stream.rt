@@ -4,7 +4,7 @@ ghost use Rattle.std.specs.Prelude.{◌≡◌, ◌++◌, ◌-◌, [], OnOk, OnEr
 ghost use Rattle.smux_store.specs.Streams.{Gives, fresh, with_data, without_last};
 
 use crate::byte_queue::ByteQueue;
-use crate::taken::Taken;
+use crate::answers::Taken;
 use chan_values::NoMemory;
 use std::alloc::Global;
 

@@ -18,12 +18,12 @@ use Rattle.smux_acts.proofs.Pushes.{finished_push}
 use Rattle.smux_acts.proofs.Receivers.{Taker, taker_goes, taker_start}
 use Rattle.smux_acts.proofs.Rows as rows
 use Rattle.smux_acts.proofs.Rows.{Row, row}
-use Rattle.smux_store.specs.declared.opening.Open.TheVariants as opens
-use Rattle.smux_store.specs.declared.taken.Taken.TheVariants as takes
+use Rattle.smux_store.specs.declared.answers.Open.TheVariants as opens
+use Rattle.smux_store.specs.declared.answers.Taken.TheVariants as takes
 use Rattle.smux_store.specs.Kept.{holding, untaken, IsOrderly}
 use Rattle.smux_store.proofs.OrderLemmas.{act_goes, count_in, gained, holding_start, living_start, opened_inv, orderly_start}
-use Rattle.smux_streams.specs.declared.fed.Fed.{Fed}
-use Rattle.smux_streams.specs.declared.write.Write.TheVariants as writes
+use Rattle.smux_streams.specs.declared.answers.Fed.{Fed}
+use Rattle.smux_streams.specs.declared.answers.Write.TheVariants as writes
 use Rattle.smux_streams.specs.Call.{Entry, Opens, Writes, Closes, Outs, Feeds, Takes, Holds}
 use Rattle.smux_streams.specs.History.{Seen, acted, acts_of, byte_seen, come, entry_seen, given, given_in, left, outbytes, seen, signal_of, with_fault}
 use Rattle.smux_streams.specs.Laws.{BoundsHold, NothingAfterEnd, taken_in, tells_end}
@@ -73,7 +73,7 @@ act_lone client given s p x m f k =
     let g = act_goes client s.acts x (row m) m k.orderly in
     let all = ap length (outbytes_push s.acts x) ∙ length-append (outbytes s.acts) (bytes_opt (sent_in x)) in
     let rest = ap length (left_push given s.acts x k.within)
-        ∙ length-append (left given s.acts) (bytes_opt (sent_in x)) in
+    ∙ length-append (left given s.acts) (bytes_opt (sent_in x)) in
     let before = k.within in
     record {
       orderly = g.orderly;
@@ -153,7 +153,7 @@ run_lone client given s (b ∷ bytes) k =
     at : (o : Option FrameFault) (w : Bool)
         → waits client given s.acts (frame_now s.pending b) ≡ w
         → (Lone client given (byte_seen client s b)
-          → Lone client given (run client given (byte_seen client s b) bytes).seen)
+        → Lone client given (run client given (byte_seen client s b) bytes).seen)
         → Lone client given (run_by o w s (run client given (byte_seen client s b) bytes)).seen
     at (Some f) w e go = pending_lone client given s (record s.pending { fault = Some f }) k
     at None true e go = k
@@ -290,8 +290,8 @@ entry_lone client given s (Feeds piece (Some fed)) c (inl h) k =
     let r = run client given s piece in
     let same : fed ≡ record { consumed = r.consumed; events = fed.events; fault = r.seen.pending.fault } = cc in
     let now : with_fault (fold (byte_seen client) s (take fed.consumed piece)) fed.fault ≡ r.seen =
-        ap (λ (f : Fed). with_fault (fold (byte_seen client) s (take f.consumed piece)) f.fault) same
-        ∙ run_seen client given s piece in
+    ap (λ (f : Fed). with_fault (fold (byte_seen client) s (take f.consumed piece)) f.fault) same
+    ∙ run_seen client given s piece in
     rw append-nil (subst (Lone client given) (sym now) (run_lone client given s piece k))
 
 pub lone : (client : Bool) (g : List Entry) → Legal client g → Lone client (given g) (seen client g)
@@ -384,10 +384,10 @@ nothing_more client given t s (Takes sid max (takes.Bytes bytes)) c (inl h) k f 
     at false q = rw q refl
     at true q =
         let told : finished sid t.acts ≡ true =
-            subst (λ (n : ℕ). finished n t.acts ≡ true) (eqb-true s sid q) f in
+        subst (λ (n : ℕ). finished n t.acts ≡ true) (eqb-true s sid q) f in
         let all : delivered sid t.acts ≡ got sid t.acts = (k.done sid told).1 in
         let none : untaken sid t.acts ≡ [] =
-            ap (λ (l : List ℕ). drop (length l) (got sid t.acts)) all ∙ drop-length (got sid t.acts) in
+        ap (λ (l : List ℕ). drop (length l) (got sid t.acts)) all ∙ drop-length (got sid t.acts) in
         let i = took_inv (live sid t.acts) (over sid t.acts) (untaken sid t.acts) bytes max c h in
         absurd (i.1.1 (i.1.0 ∙ ap (take max) none ∙ take-nil max))
 nothing_more client given t s e c a k f = refl

@@ -22,9 +22,10 @@ ghost use Rattle.smux_streams.specs.Call.{Opens, Writes, Closes, Outs, Feeds, Ta
 ghost use Rattle.smux_streams.specs.Stands.{MuxState, Stands, Follows, Forgets};
 ghost use Rattle.smux_store.specs.Streams.{held_after};
 
-mod feeding;
+mod byte;
+mod feed;
 
-use crate::write::Write;
+use crate::answers::Write;
 use chan_values::{Bytes, NoMemory};
 use smux_frames::{Cmd, Frame, FrameReader, HEADER_LEN, MAX_WRITTEN_DATA, encode_frame};
 use smux_store::streams::{begin, bury, give, shut};
