@@ -1,7 +1,11 @@
 pub mod AckLemmas
 pub mod ChannelClosedLemmas
+pub mod KeptLemmas
 pub mod LengthLemmas
 pub mod MemberLemmas
+pub mod ObjectLemmas
+pub mod OpenedLemmas
+pub mod OpeningLemmas
 pub mod ReadingLemmas
 pub mod SizeLemmas
 pub mod WrittenLemmas

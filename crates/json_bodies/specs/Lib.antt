@@ -1,5 +1,9 @@
 pub mod Ack
 pub mod ChannelClosed
 pub mod Member
+pub mod Object
+pub mod Opened
+pub mod Opening
 pub mod Reading
 pub mod Size
+pub mod Token

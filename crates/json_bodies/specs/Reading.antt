@@ -1,5 +1,6 @@
 -- How a JSON body is read: the object in its bytes, its members, and which fault is told.
-use Rattle.std.specs.Prelude.{◌≡◌, ◌⊎◌, ℕ, ◌-◌, ◌^◌, ℤ, pos, negsuc, Bool, List, ◌||◌, int_lt, Option, Some, None, is_some, ok_or, option_and_then, option_to_list, Result, Ok, Err, IfOk, IfErr, if◌then◌else◌}
+use Rattle.std.specs.Prelude.{◌≡◌, ◌⊎◌, ℕ, ◌-◌, ◌^◌, ℤ, pos, negsuc, Bool, List, ◌||◌, int_lt, Option, Some, None, is_some, ok_or, option_and_then, option_to_list, Result, Ok, Err, IfOk, IfErr, if◌then◌else◌, nat_eq}
+use Rattle.std.specs.Cmp.Lexicographic.{pointwise}
 use Rattle.std.specs.Result.{result_err}
 use Rattle.std.specs.List.{slice_get}
 use Rattle.std.specs.Str.{is_utf8}
@@ -69,6 +70,22 @@ u32_at = whole_at (pos 0) (pos (2 ^ 32 - 1))
 -- a member that is the text of an id, in one of the four forms that uuid reads
 abbrev pub id_at : Data → Member → Result (List ℕ) BodyFault
 id_at body member = in_range parsed member (text_at body member)
+
+-- whether two texts are the same
+abbrev pub same_text : List ℕ → List ℕ → Bool
+same_text = pointwise nat_eq
+
+-- a member that is this text and no other
+abbrev pub fixed_text_at : List ℕ → Data → Member → Result (List ℕ) BodyFault
+fixed_text_at expected body member =
+    in_range (λ text. if same_text text expected then Some text else None) member
+    (text_at body member)
+
+-- a member that is a text or absent; null is no text
+abbrev pub optional_text_at : Data → Member → Result (Option (List ℕ)) BodyFault
+optional_text_at body member =
+    if is_some (get (name_of member) body)
+    then result_and_then (λ text. Ok (Some text)) (text_at body member) else Ok None
 
 -- the fault of one member, if there is one
 abbrev pub fault_in : {T : Type 0} → Result T BodyFault → List BodyFault

@@ -4,7 +4,7 @@ ghost use Rattle.std.specs.Prelude.{◌≡◌, ◌⊎◌, Some, None, Ok, Err, I
 ghost use Rattle.serde_json.specs.Find.{get};
 ghost use Rattle.serde_json.specs.View.{view};
 ghost use Rattle.json_bodies.specs.Member.{name_of};
-ghost use Rattle.json_bodies.specs.Reading.{object_of, text_at, truth_at, whole_at, i64_at, u32_at, id_at, UnlessNoMemory};
+ghost use Rattle.json_bodies.specs.Reading.{object_of, text_at, optional_text_at, fixed_text_at, truth_at, whole_at, i64_at, u32_at, id_at, UnlessNoMemory};
 
 use crate::body_fault::BodyFault;
 use crate::member::Member;
@@ -38,6 +38,33 @@ pub(crate) fn text(alloc: Global, body: &Value, member: Member) -> Result<Text, 
 {
     let text = str_of(body, member)?;
     Ok(Text::new(String::from_str(alloc, text)?))
+}
+
+/// A text, or none where the member is absent.
+pub(crate) fn optional_text(
+    alloc: Global,
+    body: &Value,
+    member: Member,
+) -> Result<Option<Text>, BodyFault>
+    ensures { UnlessNoMemory result (optional_text_at (view body.now) member) }
+{
+    if body.get(member.name()).is_none() {
+        return Ok(None);
+    }
+    Ok(Some(text(alloc, body, member)?))
+}
+
+/// That the member is this text.
+pub(crate) fn fixed_text(body: &Value, member: Member, expected: &str) -> Result<(), BodyFault>
+    ensures { MatchResult result
+        (λ _. fixed_text_at expected.now (view body.now) member ≡ Ok expected.now)
+        (λ fault. fixed_text_at expected.now (view body.now) member ≡ Err fault) }
+{
+    let text = str_of(body, member)?;
+    if text != expected {
+        return Err(BodyFault::Range(member));
+    }
+    Ok(())
 }
 
 /// A truth value.
@@ -74,8 +101,8 @@ pub(crate) fn id(body: &Value, member: Member) -> Result<[u8; 16], BodyFault>
     }
 }
 
-// A text in place.
-fn str_of(body: &Value, member: Member) -> Result<&str, BodyFault>
+/// A text in place.
+pub(crate) fn str_of(body: &Value, member: Member) -> Result<&str, BodyFault>
     ensures { MatchResult result (λ text. text_at (view body.now) member ≡ Ok text.now)
         (λ fault. text_at (view body.now) member ≡ Err fault) }
 {

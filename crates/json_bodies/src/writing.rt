@@ -1,15 +1,15 @@
 //! The writers of members, of which each body's `write` is made. Each adds to the object of a body.
 
-ghost use Rattle.std.specs.Prelude.{◌≡◌, Some, OnOk, FitsSigned};
+ghost use Rattle.std.specs.Prelude.{◌≡◌, Some, IfSome, OnOk, IsUtf8, FitsSigned, option_map, ◌<◌, ◌^◌};
 ghost use Rattle.std.specs.Int.{w64};
-ghost use Rattle.serde_json.specs.Data.{boolean, number, string, put};
+ghost use Rattle.serde_json.specs.Data.{boolean, number, string, unsigned};
 ghost use Rattle.serde_json.specs.Find.{of_integer};
-ghost use Rattle.serde_json.specs.View.{members_view};
+ghost use Rattle.serde_json.specs.View.{view, members_view};
 ghost use Rattle.uuid.specs.Text.{hyphenated_text, lower, parsed};
-ghost use Rattle.json_bodies.specs.Member.{name_of};
+ghost use Rattle.json_bodies.specs.Object.{put_if};
 
 use crate::member::Member;
-use chan_values::NoMemory;
+use chan_values::{NoMemory, Text};
 use serde_json::{Map, Value};
 use std::alloc::Global;
 use uuid::Uuid;
@@ -17,18 +17,62 @@ use uuid::Uuid;
 /// The members of an object.
 pub(crate) type Members = Map<String, Value>;
 
+/// A value of any kind.
+pub(crate) fn put_value(
+    alloc: Global,
+    body: &mut Members,
+    member: Member,
+    value: Value,
+) -> Result<(), NoMemory>
+    ensures { OnOk result (members_view body.new.entries
+        ≡ put_if member (Some (view value)) (members_view body.old.entries)) }
+{
+    Ok(serde_json::put(body, alloc, member.name(), value)?)
+}
+
 /// A text.
 pub(crate) fn put_text(
     alloc: Global,
     body: &mut Members,
     member: Member,
+    text: &Text,
+) -> Result<(), NoMemory>
+    ensures utf8 { IsUtf8 text.now }
+    ensures put { OnOk result (members_view body.new.entries
+        ≡ put_if member (Some (string text.now)) (members_view body.old.entries)) }
+{
+    put_str(alloc, body, member, text.as_str())
+}
+
+/// A text that is no value of ours.
+pub(crate) fn put_str(
+    alloc: Global,
+    body: &mut Members,
+    member: Member,
     text: &str,
 ) -> Result<(), NoMemory>
-    ensures { OnOk result (members_view body.new.entries
-        ≡ put (name_of member) (string text.now) (members_view body.old.entries)) }
+    ensures utf8 { IsUtf8 text.now }
+    ensures put { OnOk result (members_view body.new.entries
+        ≡ put_if member (Some (string text.now)) (members_view body.old.entries)) }
 {
-    let value = Value::try_from_str(alloc, text)?;
-    Ok(serde_json::put(body, alloc, member.name(), value)?)
+    put_value(alloc, body, member, Value::try_from_str(alloc, text)?)
+}
+
+/// A text, where there is one.
+pub(crate) fn put_optional_text(
+    alloc: Global,
+    body: &mut Members,
+    member: Member,
+    text: &Option<Text>,
+) -> Result<(), NoMemory>
+    ensures utf8 { IfSome text.now IsUtf8 }
+    ensures put { OnOk result (members_view body.new.entries
+        ≡ put_if member (option_map string text.now) (members_view body.old.entries)) }
+{
+    match text {
+        Some(text) => put_text(alloc, body, member, text),
+        None => Ok(()),
+    }
 }
 
 /// A truth value.
@@ -39,13 +83,13 @@ pub(crate) fn put_truth(
     truth: bool,
 ) -> Result<(), NoMemory>
     ensures { OnOk result (members_view body.new.entries
-        ≡ put (name_of member) (boolean truth) (members_view body.old.entries)) }
+        ≡ put_if member (Some (boolean truth)) (members_view body.old.entries)) }
 {
-    Ok(serde_json::put(body, alloc, member.name(), Value::from(truth))?)
+    put_value(alloc, body, member, Value::from(truth))
 }
 
-/// A whole number.
-pub(crate) fn put_whole(
+/// A whole number with a sign.
+pub(crate) fn put_signed(
     alloc: Global,
     body: &mut Members,
     member: Member,
@@ -53,9 +97,23 @@ pub(crate) fn put_whole(
 ) -> Result<(), NoMemory>
     ensures range { FitsSigned w64 whole }
     ensures put { OnOk result (members_view body.new.entries
-        ≡ put (name_of member) (number (of_integer whole)) (members_view body.old.entries)) }
+        ≡ put_if member (Some (number (of_integer whole))) (members_view body.old.entries)) }
 {
-    Ok(serde_json::put(body, alloc, member.name(), Value::from(whole))?)
+    put_value(alloc, body, member, Value::from(whole))
+}
+
+/// A whole number without a sign.
+pub(crate) fn put_unsigned(
+    alloc: Global,
+    body: &mut Members,
+    member: Member,
+    whole: u64,
+) -> Result<(), NoMemory>
+    ensures range { whole < 2 ^ 64 }
+    ensures put { OnOk result (members_view body.new.entries
+        ≡ put_if member (Some (number (unsigned whole))) (members_view body.old.entries)) }
+{
+    put_value(alloc, body, member, Value::from(whole))
 }
 
 /// An id, as its hyphenated lower-case text.
@@ -67,10 +125,10 @@ pub(crate) fn put_id(
 ) -> Result<(), NoMemory>
     ensures reads { parsed (hyphenated_text lower id) ≡ Some id }
     ensures put { OnOk result (members_view body.new.entries
-        ≡ put (name_of member) (string (hyphenated_text lower id))
+        ≡ put_if member (Some (string (hyphenated_text lower id)))
         (members_view body.old.entries)) }
 {
     let mut buffer = Uuid::encode_buffer();
     let id = Uuid::from_bytes(id).hyphenated();
-    put_text(alloc, body, member, id.encode_lower(&mut buffer))
+    put_str(alloc, body, member, id.encode_lower(&mut buffer))
 }
