@@ -1,3 +1,4 @@
+pub mod CaptureLaws
 pub mod Faults
 pub mod NameLemmas
 pub mod OneAnswer

@@ -1,7 +1,7 @@
 -- The pieces at the front of a list of bytes.
-use Rattle.std.proofs.Common.{◌≡◌, ℕ, ◌+◌, ◌-◌, ◌^◌, ◌<◌, ◌≤◌, List, [], ◌∷◌, ◌++◌, length, take, drop, Ok, refl, sym, ap, ◌∙◌, append_assoc, arith, length-append, length-take, length-drop}
+use Rattle.std.proofs.Common.{◌≡◌, ℕ, ◌+◌, ◌-◌, ◌≤◌, List, [], ◌∷◌, ◌++◌, length, take, drop, Ok, refl, sym, ap, ◌∙◌, append_assoc, arith, length-append, length-take, length-drop}
 use Rattle.std.specs.Int.{w32, to_be_bytes, from_be_bytes}
-use Rattle.std.proofs.lemmas.List.{take-append-drop, take-append-le, drop-drop, append-nil, nil_from_length}
+use Rattle.std.proofs.lemmas.List.{take-append-le}
 use Rattle.std.proofs.lemmas.Nat.{from_be_bytes-to_be_bytes_4}
 use Rattle.agent_message.specs.Captures.{Pieces, max_message, piece, said_length}
 use Rattle.agent_message.specs.Decoding.{Decodes}
@@ -32,7 +32,11 @@ said_length-piece spelled more short =
 pub length-piece : (spelled more : List ℕ)
     → length (piece spelled ++ more) ≡ 4 + length spelled + length more
 length-piece spelled more =
-    omega (arith, length-append (piece spelled) more, length-append (to_be_bytes w32 (length spelled)) spelled)
+    omega (
+      arith,
+      length-append (piece spelled) more,
+      length-append (to_be_bytes w32 (length spelled)) spelled,
+    )
 
 -- more bytes leave the length at the front as it is
 pub said_length-append : (bytes more : List ℕ) → 4 ≤ length bytes
@@ -58,7 +62,8 @@ split_piece bytes size fits said whole =
 -- ---- many pieces
 
 -- more bytes belong to the rest
-pub Pieces-append : (messages : List Message) (bytes rest more : List ℕ) → Pieces messages bytes rest
+pub Pieces-append : (messages : List Message) (bytes rest more : List ℕ)
+    → Pieces messages bytes rest
     → Pieces messages (bytes ++ more) (rest ++ more)
 Pieces-append [] bytes rest more are = ap (λ front. front ++ more) are
 Pieces-append (m ∷ messages) bytes rest more are = (
@@ -82,4 +87,9 @@ pub rest_is_short : (messages : List Message) (bytes rest : List ℕ) → Pieces
     → length rest ≤ length bytes
 rest_is_short [] bytes rest are = omega (arith, ap length are)
 rest_is_short (m ∷ messages) bytes rest are =
-    omega (arith, ap length are.2, length-append (piece are.0) are.1, rest_is_short messages are.1 rest are.4)
+    omega (
+      arith,
+      ap length are.2,
+      length-append (piece are.0) are.1,
+      rest_is_short messages are.1 rest are.4,
+    )

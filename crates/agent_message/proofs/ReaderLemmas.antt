@@ -1,9 +1,9 @@
 -- What a reader of a capture stands for after one more part.
-use Rattle.std.proofs.Common.{◌≡◌, ℕ, ◌+◌, ◌-◌, ◌^◌, ◌<◌, ◌≤◌, ◌⊎◌, inl, inr, min, true, false, Option, Some, None, List, [], ◌∷◌, ◌++◌, length, Ok, refl, sym, ap, subst, ◌∙◌, append_assoc, arith, length-append}
+use Rattle.std.proofs.Common.{◌≡◌, ℕ, ◌+◌, ◌-◌, ◌^◌, ◌<◌, ◌≤◌, inl, inr, min, true, false, Option, Some, None, List, [], ◌∷◌, ◌++◌, length, Ok, refl, sym, ap, subst, ◌∙◌, append_assoc, arith, length-append}
 use Rattle.std.specs.Prelude.{MatchOption, is_some}
 use Rattle.std.proofs.lemmas.Bool.{cases_lt}
 use Rattle.std.proofs.lemmas.Bool.Decides.{nat_tests}
-use Rattle.std.proofs.lemmas.List.{append-nil, nil_from_length}
+use Rattle.std.proofs.lemmas.List.{nil_from_length}
 use Rattle.agent_message.specs.CaptureReading.{Pending, StandsFor, missing}
 use Rattle.agent_message.specs.Captures.{HasCause, IsUnfinished, Pieces, ShowsFault, max_message, piece, place_of, said_length}
 use Rattle.agent_message.specs.Decoding.{Decodes}
@@ -23,13 +23,16 @@ place_stays bytes rest more short =
 pub unfinished : (p : Pending) (bytes : List ℕ) (given : List Message) → StandsFor p bytes given
     → p.fault ≡ None → IsUnfinished p.rest
 unfinished p bytes given s sound =
-    let shown : MatchOption None (IsUnfinished s.rest) (λ fault. ShowsFault bytes s.rest fault × ¬ IsUnfinished s.rest) =
-    subst (λ fault. MatchOption fault (IsUnfinished s.rest) (λ f. ShowsFault bytes s.rest f × ¬ IsUnfinished s.rest)) sound s.shown in
+    let shown : MatchOption None (IsUnfinished s.rest) (λ fault. ShowsFault bytes s.rest fault
+    × ¬ IsUnfinished s.rest) =
+    subst (λ fault. MatchOption fault (IsUnfinished s.rest) (λ f. ShowsFault bytes s.rest f
+    × ¬ IsUnfinished s.rest)) sound s.shown in
     subst IsUnfinished (sym (s.kept sound)) shown
 
 -- what is unfinished lacks bytes
 pub lacks : (rest : List ℕ) → IsUnfinished rest → 0 < missing rest
-lacks rest is = elim is [ inl few ↦ grind (arith, nat_tests) | inr short ↦ grind (arith, nat_tests) ]
+lacks rest is = elim is
+    [ inl few ↦ grind (arith, nat_tests) | inr short ↦ grind (arith, nat_tests) ]
 
 -- what is missing of a length, and of a piece
 missing_length : (rest : List ℕ) → length rest < 4 → missing rest ≡ 4 - length rest
@@ -73,8 +76,12 @@ front_unfinished rest part is =
 -- what is wrong stays so, whatever follows
 HasCause-append : (rest part : List ℕ) (cause : CaptureCause) → HasCause rest cause
     → ¬ IsUnfinished rest → HasCause (rest ++ part) cause
-HasCause-append rest part (Size said) has broken =
-    (omega (arith, length-append rest part), has.1 ∙ sym (said_length-append rest part has.0), has.2)
+HasCause-append rest part (Size said) has broken = (
+  omega (arith, length-append rest part),
+  has.1
+      ∙ sym (said_length-append rest part has.0),
+  has.2,
+)
 HasCause-append rest part (Refused refusal) has broken = (
   has.0,
   has.1 ++ part,
@@ -94,7 +101,8 @@ goes_on p q bytes part given s sound is rest start still =
     record {
       rest = s.rest ++ part;
       pieces = Pieces-append given bytes s.rest part s.pieces;
-      start = start ∙ s.start ∙ sym (place_stays bytes s.rest part (rest_is_short given bytes s.rest s.pieces));
+      start = start ∙ s.start
+          ∙ sym (place_stays bytes s.rest part (rest_is_short given bytes s.rest s.pieces));
       kept = λ none. rest ∙ same;
       shown =
           subst
@@ -122,12 +130,15 @@ breaks p q bytes part given cause s sound is start fault =
           subst
           (λ shown. MatchOption shown (IsUnfinished (s.rest ++ part))
           (λ f. ShowsFault (bytes ++ part) (s.rest ++ part) f × ¬ IsUnfinished (s.rest ++ part)))
-          (sym fault)
-          ((place, subst (λ rest. HasCause rest cause) same is.0), subst (λ rest. ¬ IsUnfinished rest) same is.1);
+          (sym fault) (
+            (place, subst (λ rest. HasCause rest cause) same is.0),
+            subst (λ rest. ¬ IsUnfinished rest) same is.1,
+          );
     }
 
 -- a fault stays, whatever follows
-pub stays_broken : (p : Pending) (bytes part : List ℕ) (given : List Message) → StandsFor p bytes given
+pub stays_broken : (p : Pending) (bytes part : List ℕ) (given : List Message)
+    → StandsFor p bytes given
     → is_some p.fault ≡ true → StandsFor p (bytes ++ part) given
 stays_broken p bytes part given s broken =
     let place : place_of (bytes ++ part) (s.rest ++ part) ≡ place_of bytes s.rest =
@@ -145,7 +156,8 @@ stays_broken p bytes part given s broken =
     no_none (Some f) some none = cc
 
     still : (o : Option CaptureFault) → is_some o ≡ true
-        → MatchOption o (IsUnfinished s.rest) (λ f. ShowsFault bytes s.rest f × ¬ IsUnfinished s.rest)
+        → MatchOption o (IsUnfinished s.rest) (λ f. ShowsFault bytes s.rest f
+        × ¬ IsUnfinished s.rest)
         → place_of (bytes ++ part) (s.rest ++ part) ≡ place_of bytes s.rest
         → MatchOption o (IsUnfinished (s.rest ++ part))
         (λ f. ShowsFault (bytes ++ part) (s.rest ++ part) f × ¬ IsUnfinished (s.rest ++ part))
@@ -166,7 +178,8 @@ pub regroup : (p : Pending) (before taken part : List ℕ) (given now new : List
     → StandsFor p (before ++ (taken ++ part)) (given ++ (now ++ new))
 regroup p before taken part given now new s =
     subst (λ bytes. StandsFor p bytes (given ++ (now ++ new))) (append_assoc before taken part)
-    (subst (λ messages. StandsFor p ((before ++ taken) ++ part) messages) (append_assoc given now new) s)
+    (subst (λ messages. StandsFor p ((before ++ taken) ++ part) messages)
+    (append_assoc given now new) s)
 
 -- a part that goes no further than the piece leaves nothing behind the piece
 nothing_behind : (rest part spelled more : List ℕ) → IsUnfinished rest

@@ -146,7 +146,7 @@ abbrev pub IsBytes : List ℕ → Type 0
 IsBytes bytes = (i : ℕ) → get_or bytes i 0 < 256
 
 -- so is each of a part
-IsBytes-part : (bytes : List ℕ) (at n : ℕ) → IsBytes bytes → IsBytes (take n (drop at bytes))
+pub IsBytes-part : (bytes : List ℕ) (at n : ℕ) → IsBytes bytes → IsBytes (take n (drop at bytes))
 IsBytes-part bytes at n fits i =
     elim (cases_lt i n) [
       | inl within ↦ rw (

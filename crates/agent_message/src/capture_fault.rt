@@ -5,7 +5,8 @@ use crate::refusal::Refusal;
 /// The first fault of a capture.
 #[derive(Clone, Copy, Debug, PartialEq, Eq)]
 pub struct CaptureFault {
-    /// Where the piece that shows it begins, counted from 0; 2^64 - 1 stands for each later place too.
+    /// Where the piece that shows it begins, counted from 0. 2^64 - 1 stands for each later place
+    /// too.
     pub at: u64,
     /// What is wrong with that piece.
     pub cause: CaptureCause,

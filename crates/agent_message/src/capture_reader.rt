@@ -1,6 +1,6 @@
 //! The reader of a capture.
 
-ghost use Rattle.std.specs.Prelude.{◌≡◌, ℕ, ◌+◌, ◌-◌, ◌<◌, ◌≤◌, List, [], ◌++◌, length, IfOk, IfSome, OnErr, None, option_to_list};
+ghost use Rattle.std.specs.Prelude.{◌≡◌, ℕ, ◌+◌, ◌-◌, ◌<◌, ◌≤◌, List, [], ◌++◌, length, IfOk, IfSome, IsOkAnd, OnErr, None, Some, option_to_list};
 ghost use Rattle.agent_message.specs.Captures.{IsCapture};
 ghost use Rattle.agent_message.specs.CaptureReading.{StandsFor, missing};
 ghost use Rattle.agent_message.specs.declared.message.Message.{Message};
@@ -22,8 +22,8 @@ pub struct Captured {
     pub fault: Option<CaptureFault>,
 }
 
-/// Reads a capture in parts, wherever it is cut. It keeps the bytes of the coming piece alone. After a
-/// fault every later part gives the same fault and no messages.
+/// Reads a capture in parts, wherever it is cut. It keeps the bytes of the coming piece alone. After
+/// a fault every later part gives the same fault and no messages.
 #[derive(Drop)]
 pub struct CaptureReader {
     alloc: Global,
@@ -64,6 +64,9 @@ impl CaptureReader {
             → IfOk result (λ captured.
             StandsFor self.new (before ++ bytes.now) (given ++ captured.messages)) }
         ensures fault { IfOk result (λ captured. captured.fault ≡ self.new.fault) }
+        ensures kept { IfSome self.old.fault (λ fault. (self.new ≡ self.old)
+            × IsOkAnd result (λ captured.
+            (captured.fault ≡ Some fault) × (captured.messages ≡ []))) }
         ensures err { OnErr result (self.new ≡ self.old) }
     {
         if self.fault.is_some() {
@@ -144,7 +147,7 @@ impl CaptureReader {
                     at: self.start,
                     cause,
                 });
-                self.rest.clear();
+                self.rest = Vec::new(self.alloc);
                 Ok(None)
             }
         }

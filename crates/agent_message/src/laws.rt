@@ -1,8 +1,11 @@
 //! What holds of every message and of every list of bytes.
 
-ghost use Rattle.std.specs.Prelude.{◌≡◌, ◌<◌, ℕ, All, List, Result, Ok};
+ghost use Rattle.std.specs.Prelude.{◌≡◌, ◌<◌, ℕ, All, List, None, Option, Result, Ok};
+ghost use Rattle.std.specs.List.{flat_map};
+ghost use Rattle.agent_message.specs.Captures.{IsCapture, piece};
 ghost use Rattle.agent_message.specs.Decoding.{Decodes};
 ghost use Rattle.agent_message.specs.Layout.{canonical, IsEncodable};
+ghost use Rattle.agent_message.specs.declared.capture_fault.CaptureFault.{CaptureFault};
 ghost use Rattle.agent_message.specs.declared.message.Message.{Message};
 ghost use Rattle.agent_message.specs.declared.refusal.Refusal.{Refusal};
 
@@ -21,4 +24,24 @@ pub fn bytes_have_an_answer()
 pub fn bytes_have_one_answer()
     ensures { (bytes : List ℕ) (a b : Result Message Refusal)
         → Decodes bytes a → Decodes bytes b → a ≡ b }
+{}
+
+/// The pieces of messages that can be written are a capture of these messages, without a fault.
+pub fn what_is_captured_is_read()
+    ensures { (messages : List Message) → All IsEncodable messages
+        → IsCapture (flat_map (λ m. piece (canonical m)) messages) messages None }
+{}
+
+/// Bytes are a capture, up to their end or their first fault.
+pub fn bytes_are_a_capture()
+    ensures { (bytes : List ℕ) → All (λ byte. byte < 256) bytes
+        → (messages : List Message) × (fault : Option CaptureFault)
+        × IsCapture bytes messages fault }
+{}
+
+/// Bytes are a capture in one way.
+pub fn bytes_are_one_capture()
+    ensures { (bytes : List ℕ) (messages others : List Message) (fault other : Option CaptureFault)
+        → IsCapture bytes messages fault → IsCapture bytes others other
+        → (messages ≡ others) × (fault ≡ other) }
 {}

@@ -23,4 +23,6 @@ pub use name::{MAX_NAME, Name};
 pub use refusal::Refusal;
 
 #[cfg(test)]
+mod capture_tests;
+#[cfg(test)]
 mod tests;

@@ -1,8 +1,7 @@
-use Rattle.std.proofs.Common.{◌≡◌, ◌+◌, ◌++◌, length, rules, sym, ap, subst, ◌∙◌, arith}
+use Rattle.std.proofs.Common.{◌≡◌, ◌+◌, ◌++◌, length, sym, ap, subst, ◌∙◌}
 use Rattle.std.specs.Int.{w32, to_be_bytes}
 use Rattle.agent_message.specs.Heads.{message_with}
 use Rattle.agent_message.specs.Layout.{IsEncodable, canonical}
-use Rattle.agent_message.specs.declared.message.Message.{Message}
 use Rattle.agent_message.proofs.PieceLemmas.{length-canonical}
 use Rattle.agent_message.proofs.capture.capture_piece.Goals as goal
 
@@ -21,5 +20,6 @@ returns-clause-piece c =
     c.in_ok-extend_from_slice.ensures.items
     ∙ ap (λ bytes. bytes ++ c.to_be_bytes.result) c.in_ok-bytes.ensures.items ∙ size in
     c.in_ok-push_encoding.ensures.canonical
-    ∙ ap (λ bytes. bytes ++ canonical (message_with c.head.result c.as_slice-payload.result.now)) front
+    ∙ ap (λ bytes. bytes ++ canonical (message_with c.head.result c.as_slice-payload.result.now))
+    front
     ∙ ap (λ n. to_be_bytes w32 (length (canonical m)) ++ canonical n) same

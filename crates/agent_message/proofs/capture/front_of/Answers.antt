@@ -1,5 +1,4 @@
-use Rattle.std.proofs.Common.{◌≡◌, ◌+◌, ◌-◌, ◌<◌, ◌≤◌, ◌++◌, length, take, drop, inl, inr, arith, length-take, length-drop}
-use Rattle.agent_message.specs.Captures.{said_length, piece}
+use Rattle.std.proofs.Common.{◌≡◌, ◌+◌, ◌-◌, length, take, drop, inl, inr, arith, length-take, length-drop}
 use Rattle.agent_message.proofs.PieceLemmas.{split_piece}
 use Rattle.agent_message.proofs.capture.front_of.Goals as goal
 
@@ -9,7 +8,8 @@ returns-in-Ok c =
     let size = c.u32_at-said.result in (
       take (4 + size - 4) (drop 4 bytes),
       drop (4 + size) bytes,
-      split_piece bytes size (λ i. omega (arith, c.type_inv.bytes i)) c.u32_at-said.ensures (omega arith),
+      split_piece bytes size (λ i. omega (arith, c.type_inv.bytes i)) c.u32_at-said.ensures
+          (omega arith),
       c.in-Ok.ensures.read,
     )
 
@@ -26,7 +26,8 @@ returns-in_default c =
         (
           spelled,
           drop (4 + size) bytes,
-          split_piece bytes size (λ i. omega (arith, c.type_inv.bytes i)) c.u32_at-said.ensures (omega arith),
+          split_piece bytes size (λ i. omega (arith, c.type_inv.bytes i)) c.u32_at-said.ensures
+              (omega arith),
           omega arith,
           refuses,
         ),

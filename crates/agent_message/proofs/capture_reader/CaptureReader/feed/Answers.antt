@@ -1,4 +1,4 @@
-use Rattle.std.proofs.Common.{◌≡◌, ◌<◌, ◌++◌, true, None, length, refl, sym, ap, subst, ◌∙◌}
+use Rattle.std.proofs.Common.{◌≡◌, ◌<◌, true, None, length, refl, sym, ap, subst, ◌∙◌}
 use Rattle.std.specs.Prelude.{is_some}
 use Rattle.std.proofs.lemmas.List.{append-nil}
 use Rattle.agent_message.specs.CaptureReading.{StandsFor, missing}
@@ -15,10 +15,13 @@ returns-then-is_some-clause-read c before given s =
 pub returns-then-bytes-missing-clause-read : goal.returns-then-bytes-missing-clause-read
 returns-then-bytes-missing-clause-read c before given s =
     let s' = subst (λ p. StandsFor p before given) (sym c.self.view_is) s in
-    let sound : c.self.inside.fault ≡ None = no_fault c.self.inside.fault (sym c.if-is_some.ensures) in
+    let sound : c.self.inside.fault ≡ None =
+    no_fault c.self.inside.fault (sym c.if-is_some.ensures) in
     let few : length c.args.bytes.now < missing c.self.inside.rest.items =
     subst (λ n. length c.args.bytes.now < n)
     (c.missing.ensures ∙ ap (λ p. missing p.rest) (sym c.self.view_is)) c.if-bytes-missing.true in
-    let is = still_unfinished c.self.inside.rest.items c.args.bytes.now (unfinished _ before given s' sound) few in
+    let is = still_unfinished c.self.inside.rest.items c.args.bytes.now
+    (unfinished _ before given s' sound) few in
     rw (c.nothing-then-bytes-missing.ensures.messages, append-nil)
-    (goes_on _ _ before c.args.bytes.now given s' sound is c.in_ok-extend_from_slice.ensures.items refl sound)
+    (goes_on _ _ before c.args.bytes.now given s' sound is c.in_ok-extend_from_slice.ensures.items
+    refl sound)

@@ -1,4 +1,4 @@
-use Rattle.std.proofs.Common.{◌≡◌, ℕ, true, length, ◌++◌, List, [], ◌∷◌, refl, sym, ap, subst, ◌∙◌, append_assoc, arith}
+use Rattle.std.proofs.Common.{◌≡◌, true, length, ◌++◌, List, [], refl, sym, ap, subst, ◌∙◌, append_assoc}
 use Rattle.std.specs.Prelude.{is_some, option_to_list}
 use Rattle.std.proofs.lemmas.List.{append-nil, take-append-drop, nil_from_length}
 use Rattle.std.proofs.lemmas.Bool.{eqb-true}
@@ -9,8 +9,16 @@ use Rattle.agent_message.proofs.capture_reader.CaptureReader.read.Goals as goal
 use Rattle.agent_message.proofs.capture_reader.CaptureReader.read.Goals.{in-Some+in_ok-push, in_default, then-loop-reader-test+else-is_none, else-loop-reader-test}
 
 pub loop-reader-init : goal.loop-reader-init
-loop-reader-init c =
-    ([], refl, λ before given s. rw (c.in_ok-reader.ensures, c.new-messages.ensures.items, append-nil, append-nil) s)
+loop-reader-init c = (
+  [],
+  refl,
+  λ before given s. rw (
+    c.in_ok-reader.ensures,
+    c.new-messages.ensures.items,
+    append-nil,
+    append-nil,
+  ) s,
+)
 
 pub loop-reader-preserved : goal.loop-reader-preserved
 loop-reader-preserved c =
@@ -25,18 +33,21 @@ loop-reader-preserved c =
       a.0 ++ part,
       whole,
       λ before given s.
-      let after : StandsFor c.take.new.self (before ++ (a.0 ++ part)) (given ++ (ms ++ option_to_list c.in_ok-message.field-0)) =
-      regroup c.take.new.self before a.0 part given ms (option_to_list c.in_ok-message.field-0)
-      (c.in_ok-message.ensures (before ++ a.0) (given ++ ms) (a.2 before given s)) in
-      let P : List Message → Type 0 = λ messages. StandsFor c.take.new.self (before ++ (a.0 ++ part)) (given ++ messages) in
-      elim c.match-branch-3.branch [
-        | in-Some+in_ok-push w ↦ subst P
-            (sym (ap (λ v. v.items) w.messages-is ∙ w.in_ok-push.ensures.items
-            ∙ ap (λ o. ms ++ option_to_list o) (sym w.in-Some.is))) after
-        | in_default w ↦ subst P
-            (sym (ap (λ v. v.items) w.messages-is ∙ sym (append-nil ms)
-            ∙ ap (λ o. ms ++ option_to_list o) (sym w.in_default.is))) after
-      ],
+          let after : StandsFor c.take.new.self (before ++ (a.0 ++ part))
+          (given ++ (ms ++ option_to_list c.in_ok-message.field-0)) =
+          regroup c.take.new.self before a.0 part given ms (option_to_list c.in_ok-message.field-0)
+          (c.in_ok-message.ensures (before ++ a.0) (given ++ ms) (a.2 before given s)) in
+          let P : List Message
+          → Type 0 = λ messages. StandsFor c.take.new.self (before ++ (a.0 ++ part))
+          (given ++ messages) in
+          elim c.match-branch-3.branch [
+            | in-Some+in_ok-push w ↦ subst P
+                (sym (ap (λ v. v.items) w.messages-is ∙ w.in_ok-push.ensures.items
+                ∙ ap (λ o. ms ++ option_to_list o) (sym w.in-Some.is))) after
+            | in_default w ↦ subst P
+                (sym (ap (λ v. v.items) w.messages-is ∙ sym (append-nil ms)
+                ∙ ap (λ o. ms ++ option_to_list o) (sym w.in_default.is))) after
+          ],
     )
 
 pub returns-clause-read : goal.returns-clause-read
