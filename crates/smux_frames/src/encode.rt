@@ -1,16 +1,16 @@
 //! A frame as bytes.
 
 ghost use Rattle.std.specs.Prelude.{◌≡◌, ◌≢◌, ◌≤◌, IfOk, length, []};
-ghost use Rattle.smux_frames.specs.Spelling.{Spells};
+ghost use Rattle.smux_frames.specs.Spelling.{Spells, max_written_data};
 ghost use Rattle.smux_frames.specs.declared.frame.Cmd.TheVariants as Cmd;
 
-use crate::frame::{Cmd, Frame, HEADER_LEN, MAX_WRITTEN_DATA};
+use crate::frame::{Cmd, Frame, HEADER_LEN};
 use chan_values::NoMemory;
 use std::alloc::Global;
 
 /// The bytes of one frame, all numbers little-endian.
 pub fn encode_frame(alloc: Global, frame: &Frame) -> Result<Vec<u8>, NoMemory>
-    requires small { length frame.now.payload ≤ MAX_WRITTEN_DATA }
+    requires small { length frame.now.payload ≤ max_written_data }
     requires empty { frame.now.cmd ≢ Cmd.Psh → frame.now.payload ≡ [] }
     ensures { IfOk result (λ bytes. Spells frame.now bytes.items) }
 {

@@ -27,7 +27,7 @@ use Rattle.smux_streams.specs.declared.answers.Write.TheVariants as writes
 use Rattle.smux_streams.specs.Call.{Entry, Opens, Writes, Closes, Outs, Feeds, Takes, Holds}
 use Rattle.smux_streams.specs.History.{Seen, acted, acts_of, byte_seen, come, entry_seen, given, given_in, left, outbytes, seen, signal_of, with_fault}
 use Rattle.smux_streams.specs.Laws.{BoundsHold, NothingAfterEnd, taken_in, tells_end}
-use Rattle.smux_streams.specs.Legal.{Answered, Answers, IsCall, Legal, Run, has_room, run, run_by, take_answer, waits, waits_by}
+use Rattle.smux_streams.specs.Legal.{IsAnswered, Answers, IsCall, IsLegal, Run, has_room, run, run_by, take_answer, waits, waits_by}
 use Rattle.smux_streams.proofs.OutLemmas.{bytes_opt, left_push, outbytes_push}
 use Rattle.smux_streams.proofs.KeepLemmas.{given_push, seen_push}
 use Rattle.smux_streams.proofs.FeedLemmas.{run_seen}
@@ -237,7 +237,7 @@ out_lone client given s max k =
 -- one call more
 entry_lone : (client : Bool) (given : List ℕ) (s : Seen) (e : Entry)
     → IsCall e
-    → Answered client given s e
+    → IsAnswered client given s e
     → Lone client given s
     → Lone client (given ++ given_in e) (entry_seen client s e)
 entry_lone client given s (Opens (opens.Sid n)) c (r, inl h) k =
@@ -294,9 +294,9 @@ entry_lone client given s (Feeds piece (Some fed)) c (inl h) k =
     ∙ run_seen client given s piece in
     rw append-nil (subst (Lone client given) (sym now) (run_lone client given s piece k))
 
-pub lone : (client : Bool) (g : List Entry) → Legal client g → Lone client (given g) (seen client g)
+pub lone : (client : Bool) (g : List Entry) → IsLegal client g → Lone client (given g) (seen client g)
 unfolding given
-lone client g = by_pushes (λ g. Legal client g → Lone client (given g) (seen client g))
+lone client g = by_pushes (λ g. IsLegal client g → Lone client (given g) (seen client g))
     (λ l. lone_start client)
     (λ g e before l.
     let p = legal_push client g e l in
@@ -373,7 +373,7 @@ told_is client s g = by_pushes
 -- where the end was told, no take gives bytes
 nothing_more : (client : Bool) (given : List ℕ) (t : Seen) (s : ℕ) (e : Entry)
     → IsCall e
-    → Answered client given t e
+    → IsAnswered client given t e
     → Taker t.acts
     → finished s t.acts ≡ true
     → taken_in s e ≡ []
@@ -394,7 +394,7 @@ nothing_more client given t s e c a k f = refl
 
 pub end_law : NothingAfterEnd
 end_law client g l s = by_pushes
-    (λ g. Legal client g → Each (λ before e. list_any (tells_end s) before ≡ true → taken_in s e ≡ []) g)
+    (λ g. IsLegal client g → Each (λ before e. list_any (tells_end s) before ≡ true → taken_in s e ≡ []) g)
     (λ z. tt)
     (λ g e before z.
     let p = legal_push client g e z in
