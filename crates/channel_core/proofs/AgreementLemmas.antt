@@ -11,8 +11,8 @@ use Rattle.chan_values.specs.Sides.{other}
 use Rattle.chan_values.specs.declared.item.Item.{Item}
 use Rattle.channel_core.specs.declared.call.EndAnswer.{EndAnswer}
 use Rattle.channel_core.specs.declared.call.EndCall.{EndCall}
-use Rattle.channel_core.specs.declared.hearing.Incoming.TheVariants as Incoming
-use Rattle.channel_core.specs.declared.pulling.Outgoing.{Outgoing}
+use Rattle.channel_core.specs.declared.message.Incoming.TheVariants as Incoming
+use Rattle.channel_core.specs.declared.message.Outgoing.{Outgoing}
 use Rattle.channel_core.specs.Call.{Entry}
 use Rattle.channel_core.specs.History.{PutMessage, acked_numbers, emissions, item_taken, lowest_unacked, message_emitted, message_put, number_acked, owed_acks, owed_after, owed_with, put_items, put_messages, taken_items}
 use Rattle.channel_core.specs.Legal.{IsAnswered, IsNoMemory}

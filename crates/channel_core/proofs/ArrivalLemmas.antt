@@ -20,10 +20,10 @@ use Rattle.agent_message.specs.Names.{padded}
 use Rattle.agent_message.specs.declared.refusal.Refusal.{Refusal}
 use Rattle.channel_core.specs.Arrival.{Answer, Arrives, Hears, IsAnswer, AnswerOrNoMemory, item_of, refusal_of}
 use Rattle.channel_core.specs.Exchange.{incoming_of}
-use Rattle.channel_core.specs.declared.hearing.Incoming.TheVariants as Incoming
-use Rattle.channel_core.specs.declared.pulling.Outgoing.{Outgoing}
+use Rattle.channel_core.specs.declared.message.Incoming.TheVariants as Incoming
+use Rattle.channel_core.specs.declared.message.Outgoing.{Outgoing}
 use Rattle.channel_core.proofs.WireLemmas.{fits_signed, length-payload}
-use Rattle.channel_core.specs.declared.wire.refusal.InRefusal.TheVariants as InRefusal
+use Rattle.channel_core.specs.declared.wire.InRefusal.TheVariants as InRefusal
 use Rattle.agent_message.specs.declared.message.Message.{Message}
 use Rattle.json_bodies.specs.Ack.{IsWritableAck}
 use Rattle.channel_core.specs.Wire.{CanBeEncoded, ack_body, ack_message, data_name, encoding, message_of}

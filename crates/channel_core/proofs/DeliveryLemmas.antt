@@ -10,8 +10,8 @@ use Rattle.chan_values.specs.declared.item.Item.{Item}
 use Rattle.receive_window.specs.Window.{item_with}
 use Rattle.channel_core.specs.declared.call.EndAnswer.{EndAnswer}
 use Rattle.channel_core.specs.declared.call.EndCall.{EndCall}
-use Rattle.channel_core.specs.declared.hearing.Heard.{Heard}
-use Rattle.channel_core.specs.declared.hearing.Incoming.{Incoming}
+use Rattle.channel_core.specs.declared.answer.Heard.{Heard}
+use Rattle.channel_core.specs.declared.message.Incoming.{Incoming}
 use Rattle.channel_core.specs.Call.{Entry}
 use Rattle.channel_core.specs.History.{acked_numbers, emissions, next_in_order, put_items, released_items, taken_items, is_closed, lowest_unacked}
 use Rattle.channel_core.specs.Laws.{AcknowledgedHasArrived, EachNumberIsTakenOnce, HasArrived, NothingIsBeyond, ReleasedIsInOrder, ReleasedIsPrefix, WindowBoundsMessages}
@@ -24,7 +24,7 @@ use Rattle.channel_core.proofs.ItemLemmas.{item_with-contains, item_with-meets, 
 use Rattle.channel_core.proofs.NumberLemmas.{least_absent-is, least_absent-le}
 use Rattle.channel_core.proofs.SoundLemmas.{IsConsistent, sound, within_window}
 use Rattle.channel_core.proofs.WorldLemmas.{IsHonest-pushed, IsLegalWorld-pushed, other-other}
-use Rattle.channel_core.specs.declared.pulling.Outgoing.{Outgoing}
+use Rattle.channel_core.specs.declared.message.Outgoing.{Outgoing}
 use Rattle.channel_core.proofs.LegalLemmas.{ack_cases, stream_cases}
 
 -- what the receiver released is the front of what the sender put in

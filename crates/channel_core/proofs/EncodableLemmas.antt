@@ -9,11 +9,10 @@ use Rattle.chan_values.specs.declared.item.Item.{Item}
 use Rattle.chan_values.specs.Limits.{max_payload}
 use Rattle.channel_core.specs.declared.call.EndAnswer.{EndAnswer}
 use Rattle.channel_core.specs.declared.call.EndCall.{EndCall}
-use Rattle.channel_core.specs.declared.pulling.Outgoing.{Outgoing}
-use Rattle.channel_core.specs.declared.put.Put.{Put}
+use Rattle.channel_core.specs.declared.message.Outgoing.{Outgoing}
+use Rattle.channel_core.specs.declared.answer.Put.{Put}
 use Rattle.channel_core.specs.Call.{Entry}
-use Rattle.channel_core.specs.Callable.{IsCallable}
-use Rattle.channel_core.specs.Encodable.{CanBeEncoded}
+use Rattle.channel_core.specs.Condition.{CanBeEncoded, IsCallable}
 use Rattle.channel_core.specs.History.{PutMessage, emissions, is_closed, lowest_unacked, message_emitted, message_put, owed_acks, owed_after, owed_with, put_messages}
 use Rattle.channel_core.specs.Laws.{EmissionsCanBeEncoded}
 use Rattle.channel_core.specs.Legal.{IsAnswered, IsLegal, answer_to_put}

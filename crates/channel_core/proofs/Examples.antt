@@ -5,12 +5,12 @@ use Rattle.chan_values.specs.declared.item.Item.{Item}
 use Rattle.resend_queue.specs.RoundTrips.{after_samples}
 use Rattle.channel_core.specs.declared.call.EndAnswer.{EndAnswer}
 use Rattle.channel_core.specs.declared.call.EndCall.{EndCall}
-use Rattle.channel_core.specs.declared.hearing.Heard.TheVariants as Heard
-use Rattle.channel_core.specs.declared.hearing.Incoming.TheVariants as Incoming
-use Rattle.channel_core.specs.declared.pulling.Outgoing.TheVariants as Outgoing
-use Rattle.channel_core.specs.declared.pulling.Pull.TheVariants as Pull
-use Rattle.channel_core.specs.declared.put.Put.TheVariants as Put
-use Rattle.channel_core.specs.declared.tick.Tick.TheVariants as Tick
+use Rattle.channel_core.specs.declared.answer.Heard.TheVariants as Heard
+use Rattle.channel_core.specs.declared.message.Incoming.TheVariants as Incoming
+use Rattle.channel_core.specs.declared.message.Outgoing.TheVariants as Outgoing
+use Rattle.channel_core.specs.declared.answer.Pull.TheVariants as Pull
+use Rattle.channel_core.specs.declared.answer.Put.TheVariants as Put
+use Rattle.channel_core.specs.declared.answer.Tick.TheVariants as Tick
 use Rattle.channel_core.specs.Call.{Entry, with_earlier}
 use Rattle.channel_core.specs.History.{acked_numbers, emissions, is_closed, is_paused, is_up, owed_acks, put_messages, taken_items}
 use Rattle.channel_core.specs.Legal.{answer_to, answer_to_ack, answer_to_pull, answer_to_put, answer_to_stream, answer_to_tick}

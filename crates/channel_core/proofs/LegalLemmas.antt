@@ -6,11 +6,11 @@ use Rattle.std.proofs.lemmas.List.Elements.{All-cons, All-head, All-nil, All-pus
 use Rattle.chan_values.specs.declared.item.Item.{Item}
 use Rattle.channel_core.specs.declared.call.EndAnswer.{EndAnswer}
 use Rattle.channel_core.specs.declared.call.EndCall.{EndCall}
-use Rattle.channel_core.specs.declared.hearing.Heard.{Heard}
-use Rattle.channel_core.specs.declared.hearing.Incoming.{Incoming}
-use Rattle.channel_core.specs.declared.pulling.Outgoing.{Outgoing}
-use Rattle.channel_core.specs.declared.pulling.Pull.{Pull}
-use Rattle.channel_core.specs.declared.put.Put.{Put}
+use Rattle.channel_core.specs.declared.answer.Heard.{Heard}
+use Rattle.channel_core.specs.declared.message.Incoming.{Incoming}
+use Rattle.channel_core.specs.declared.message.Outgoing.{Outgoing}
+use Rattle.channel_core.specs.declared.answer.Pull.{Pull}
+use Rattle.channel_core.specs.declared.answer.Put.{Put}
 use Rattle.channel_core.specs.Call.{Entry, with_earlier}
 use Rattle.channel_core.specs.History.{PutMessage, acked_numbers, emitted_numbers, is_closed, is_paused, is_up, item_taken, items_released, lowest_unacked, message_emitted, message_put, next_in_order, number_acked, owed_acks, owed_after, put_messages, taken_items}
 use Rattle.channel_core.specs.Legal.{IsAnswered, IsLegal, IsNoMemory, answer_to, answer_to_ack, answer_to_heard, answer_to_incoming, answer_to_pull, answer_to_put, answer_to_stream, answer_to_tick, emit_message, emit_next, emit_number, items_released_by}

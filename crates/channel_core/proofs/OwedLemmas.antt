@@ -8,10 +8,10 @@ use Rattle.std.proofs.lemmas.List.Quantifiers.{all_pairs_push}
 use Rattle.chan_values.specs.declared.item.Item.{Item}
 use Rattle.channel_core.specs.declared.call.EndAnswer.{EndAnswer}
 use Rattle.channel_core.specs.declared.call.EndCall.{EndCall}
-use Rattle.channel_core.specs.declared.hearing.Heard.{Heard}
-use Rattle.channel_core.specs.declared.hearing.Incoming.{Incoming}
-use Rattle.channel_core.specs.declared.pulling.Outgoing.{Outgoing}
-use Rattle.channel_core.specs.declared.pulling.Pull.{Pull}
+use Rattle.channel_core.specs.declared.answer.Heard.{Heard}
+use Rattle.channel_core.specs.declared.message.Incoming.{Incoming}
+use Rattle.channel_core.specs.declared.message.Outgoing.{Outgoing}
+use Rattle.channel_core.specs.declared.answer.Pull.{Pull}
 use Rattle.channel_core.specs.Call.{Entry}
 use Rattle.channel_core.specs.History.{ack_of, emitted_acks, emissions, message_emitted, owed_acks, owed_after, owed_numbers, owed_with, taken_items}
 use Rattle.channel_core.specs.Laws.{AcksKeepTheirOrder, EachNumberIsOwedOnce, IsPrefixOf, OwedIsHeardLast}

@@ -9,10 +9,10 @@ use Rattle.chan_values.specs.Sides.{other}
 use Rattle.chan_values.specs.declared.item.Item.{Item}
 use Rattle.channel_core.specs.declared.call.EndAnswer.{EndAnswer}
 use Rattle.channel_core.specs.declared.call.EndCall.{EndCall}
-use Rattle.channel_core.specs.declared.hearing.Heard.{Heard}
-use Rattle.channel_core.specs.declared.hearing.Incoming.{Incoming}
-use Rattle.channel_core.specs.declared.pulling.Outgoing.{Outgoing}
-use Rattle.channel_core.specs.declared.pulling.Pull.{Pull}
+use Rattle.channel_core.specs.declared.answer.Heard.{Heard}
+use Rattle.channel_core.specs.declared.message.Incoming.{Incoming}
+use Rattle.channel_core.specs.declared.message.Outgoing.{Outgoing}
+use Rattle.channel_core.specs.declared.answer.Pull.{Pull}
 use Rattle.channel_core.specs.Call.{Entry}
 use Rattle.channel_core.specs.Exchange.{IsPulled, incoming_of}
 use Rattle.channel_core.specs.History.{PutMessage, acked_numbers, closes, emissions, is_closed, is_paused, is_up, item_taken, message_put, owed_acks, paused_after, put_messages, taken_items, up_after}

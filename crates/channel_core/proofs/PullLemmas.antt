@@ -8,8 +8,8 @@ use Rattle.resend_queue.specs.declared.answer.Sent.{Sent}
 use Rattle.resend_queue.specs.Queue.{Pending, QueueState, after_out, first_ready, is_ready, out_of}
 use Rattle.channel_core.specs.declared.call.EndAnswer.{EndAnswer}
 use Rattle.channel_core.specs.declared.call.EndCall.{EndCall}
-use Rattle.channel_core.specs.declared.pulling.Outgoing.{Outgoing}
-use Rattle.channel_core.specs.declared.pulling.Pull.{Pull}
+use Rattle.channel_core.specs.declared.message.Outgoing.{Outgoing}
+use Rattle.channel_core.specs.declared.answer.Pull.{Pull}
 use Rattle.channel_core.specs.Call.{Entry}
 use Rattle.channel_core.specs.History.{PutMessage, acked_numbers, emitted_numbers, is_closed, is_up, lowest_unacked, owed_acks, put_messages}
 use Rattle.channel_core.specs.Legal.{IsLegal, answer_to_pull, emit_message, emit_next, emit_number}

@@ -7,7 +7,7 @@ use Rattle.resend_queue.specs.declared.answer.Kept.{Kept}
 use Rattle.resend_queue.specs.Queue.{Pending, QueueState, after_put, first_number, new_message, put_answer}
 use Rattle.channel_core.specs.declared.call.EndAnswer.{EndAnswer}
 use Rattle.channel_core.specs.declared.call.EndCall.{EndCall}
-use Rattle.channel_core.specs.declared.put.Put.{Put}
+use Rattle.channel_core.specs.declared.answer.Put.{Put}
 use Rattle.channel_core.specs.Call.{Entry}
 use Rattle.channel_core.specs.History.{PutMessage, acked_numbers, closes, emitted_numbers, is_closed, lowest_unacked, owed_after, paused_after, put_messages}
 use Rattle.channel_core.specs.Legal.{IsLegal, answer_to_put}

@@ -7,9 +7,9 @@ use Rattle.std.proofs.lemmas.List.Elements.{filter_map-append}
 use Rattle.std.proofs.lemmas.List.Sums.{sum_by-append}
 use Rattle.channel_core.specs.declared.call.EndAnswer.{EndAnswer}
 use Rattle.channel_core.specs.declared.call.EndCall.{EndCall}
-use Rattle.channel_core.specs.declared.pulling.Outgoing.TheVariants as Outgoing
-use Rattle.channel_core.specs.declared.pulling.Pull.TheVariants as Pull
-use Rattle.channel_core.specs.declared.tick.Tick.{Tick}
+use Rattle.channel_core.specs.declared.message.Outgoing.TheVariants as Outgoing
+use Rattle.channel_core.specs.declared.answer.Pull.TheVariants as Pull
+use Rattle.channel_core.specs.declared.answer.Tick.{Tick}
 use Rattle.channel_core.specs.Call.{Entry}
 use Rattle.channel_core.specs.History.{acked_numbers, emissions, emitted_numbers, is_closed, is_up, lowest_unacked, message_emitted, message_put, number_acked, put_messages, stream_number}
 use Rattle.channel_core.specs.Legal.{IsAnswered, IsLegal, answer_to_tick, is_expired}

@@ -9,8 +9,8 @@ use Rattle.chan_values.specs.declared.side.Side.TheVariants.{Plugin, Agent}
 use Rattle.chan_values.specs.Sides.{other}
 use Rattle.channel_core.specs.declared.call.EndAnswer.{EndAnswer}
 use Rattle.channel_core.specs.declared.call.EndCall.{EndCall}
-use Rattle.channel_core.specs.declared.pulling.Outgoing.{Outgoing}
-use Rattle.channel_core.specs.declared.pulling.Pull.TheVariants as Pull
+use Rattle.channel_core.specs.declared.message.Outgoing.{Outgoing}
+use Rattle.channel_core.specs.declared.answer.Pull.TheVariants as Pull
 use Rattle.channel_core.specs.Call.{Entry}
 use Rattle.channel_core.specs.Exchange.{IsPass, incoming_of, is_pull, opening, pull_count}
 use Rattle.channel_core.specs.History.{PutMessage, acked_numbers, lowest_unacked, message_emitted, message_put, number_acked, owed_acks, owed_after, put_messages}

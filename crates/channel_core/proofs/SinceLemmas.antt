@@ -8,10 +8,10 @@ use Rattle.std.proofs.lemmas.List.Folds.{Any-from_list_any, list_any-from_Any}
 use Rattle.resend_queue.specs.declared.answer.Sent.{Sent}
 use Rattle.channel_core.specs.declared.call.EndAnswer.{EndAnswer}
 use Rattle.channel_core.specs.declared.call.EndCall.{EndCall}
-use Rattle.channel_core.specs.declared.hearing.Heard.TheVariants as Heard
-use Rattle.channel_core.specs.declared.pulling.Outgoing.TheVariants as Outgoing
-use Rattle.channel_core.specs.declared.pulling.Pull.TheVariants as Pull
-use Rattle.channel_core.specs.declared.tick.Tick.TheVariants as Tick
+use Rattle.channel_core.specs.declared.answer.Heard.TheVariants as Heard
+use Rattle.channel_core.specs.declared.message.Outgoing.TheVariants as Outgoing
+use Rattle.channel_core.specs.declared.answer.Pull.TheVariants as Pull
+use Rattle.channel_core.specs.declared.answer.Tick.TheVariants as Tick
 use Rattle.channel_core.specs.Call.{Entry}
 use Rattle.channel_core.specs.History.{closes, is_closed, is_paused, is_up, paused_after, up_after}
 use Rattle.channel_core.specs.Laws.{ClosedIsClosedOnce, MarkedIsDueLast, PausedIsPausedLast, SentIsEmittedSinceOpened, UpIsOpenedLast}

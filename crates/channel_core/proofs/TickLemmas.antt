@@ -6,8 +6,8 @@ use Rattle.resend_queue.specs.Queue.{Pending, QueueState, after_mark, is_overdue
 use Rattle.resend_queue.specs.RoundTrips.{RoundTrip}
 use Rattle.channel_core.specs.declared.call.EndAnswer.{EndAnswer}
 use Rattle.channel_core.specs.declared.call.EndCall.{EndCall}
-use Rattle.channel_core.specs.declared.look.Look.{Look}
-use Rattle.channel_core.specs.declared.tick.Tick.{Tick}
+use Rattle.channel_core.specs.declared.answer.Look.{Look}
+use Rattle.channel_core.specs.declared.answer.Tick.{Tick}
 use Rattle.channel_core.specs.Call.{Entry}
 use Rattle.channel_core.specs.History.{PutMessage, emitted_numbers, is_closed, is_up, lowest_unacked, put_messages}
 use Rattle.channel_core.specs.Legal.{IsAnswered, IsLegal, answer_to_tick, is_expired, look_at}

@@ -6,7 +6,7 @@ use Rattle.chan_values.specs.declared.side.Side.TheVariants.{Plugin, Agent}
 use Rattle.chan_values.specs.Sides.{other}
 use Rattle.json_bodies.proofs.LengthLemmas.{length-ack_text}
 use Rattle.channel_core.specs.Wire.{ack_body, data_name, message_of, CanBeEncoded}
-use Rattle.channel_core.specs.declared.pulling.Outgoing.{Outgoing}
+use Rattle.channel_core.specs.declared.message.Outgoing.{Outgoing}
 
 -- the number of an acknowledgement is in its range
 pub fits_signed : (seq : ℕ) → seq < 2 ^ 63 → FitsSigned w64 (pos seq)

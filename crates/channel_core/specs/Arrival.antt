@@ -13,8 +13,8 @@ use Rattle.json_bodies.specs.declared.ack.Ack.{Ack}
 use Rattle.json_bodies.specs.declared.body_fault.BodyFault.{BodyFault}
 use Rattle.json_bodies.specs.declared.channel_closed.ChannelClosed.{ChannelClosed}
 use Rattle.channel_core.specs.Wire.{data_name}
-use Rattle.channel_core.specs.declared.hearing.Incoming.{Incoming}
-use Rattle.channel_core.specs.declared.wire.refusal.InRefusal.{InRefusal}
+use Rattle.channel_core.specs.declared.message.Incoming.{Incoming}
+use Rattle.channel_core.specs.declared.wire.InRefusal.{InRefusal}
 
 -- what is heard, or why nothing is
 abbrev pub Answer : Type 0

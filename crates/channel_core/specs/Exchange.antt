@@ -6,10 +6,10 @@ use Rattle.chan_values.specs.declared.side.Side.TheVariants.{Plugin, Agent}
 use Rattle.chan_values.specs.Sides.{other}
 use Rattle.channel_core.specs.declared.call.EndAnswer.TheVariants as EndAnswer
 use Rattle.channel_core.specs.declared.call.EndCall.{EndCall}
-use Rattle.channel_core.specs.declared.hearing.Heard.TheVariants as Heard
-use Rattle.channel_core.specs.declared.hearing.Incoming.{Incoming}
-use Rattle.channel_core.specs.declared.pulling.Outgoing.{Outgoing}
-use Rattle.channel_core.specs.declared.pulling.Pull.{Pull}
+use Rattle.channel_core.specs.declared.answer.Heard.TheVariants as Heard
+use Rattle.channel_core.specs.declared.message.Incoming.{Incoming}
+use Rattle.channel_core.specs.declared.message.Outgoing.{Outgoing}
+use Rattle.channel_core.specs.declared.answer.Pull.{Pull}
 use Rattle.channel_core.specs.World.{Event, history_of}
 
 -- what the other end hears of an emission

@@ -4,12 +4,12 @@ use Rattle.std.specs.List.{filter, filter_map, flat_map, fold, list_any, range_w
 use Rattle.chan_values.specs.declared.item.Item.{Item}
 use Rattle.channel_core.specs.declared.call.EndAnswer.{EndAnswer}
 use Rattle.channel_core.specs.declared.call.EndCall.{EndCall}
-use Rattle.channel_core.specs.declared.hearing.Heard.TheVariants as Heard
-use Rattle.channel_core.specs.declared.hearing.Incoming.TheVariants as Incoming
-use Rattle.channel_core.specs.declared.pulling.Outgoing.{Outgoing}
-use Rattle.channel_core.specs.declared.pulling.Pull.TheVariants as Pull
-use Rattle.channel_core.specs.declared.put.Put.TheVariants as Put
-use Rattle.channel_core.specs.declared.tick.Tick.TheVariants as Tick
+use Rattle.channel_core.specs.declared.answer.Heard.TheVariants as Heard
+use Rattle.channel_core.specs.declared.message.Incoming.TheVariants as Incoming
+use Rattle.channel_core.specs.declared.message.Outgoing.{Outgoing}
+use Rattle.channel_core.specs.declared.answer.Pull.TheVariants as Pull
+use Rattle.channel_core.specs.declared.answer.Put.TheVariants as Put
+use Rattle.channel_core.specs.declared.answer.Tick.TheVariants as Tick
 use Rattle.channel_core.specs.Call.{Entry}
 use Rattle.channel_core.specs.Numbers.{has_number, least_absent, numbers_of}
 

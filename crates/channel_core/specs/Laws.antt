@@ -6,10 +6,9 @@ use Rattle.chan_values.specs.Sides.{other}
 use Rattle.chan_values.specs.declared.item.Item.{Item}
 use Rattle.receive_window.specs.Window.{items_in_order}
 use Rattle.channel_core.specs.declared.call.EndAnswer.TheVariants as EndAnswer
-use Rattle.channel_core.specs.declared.hearing.Heard.TheVariants as Heard
+use Rattle.channel_core.specs.declared.answer.Heard.TheVariants as Heard
 use Rattle.channel_core.specs.Call.{Entry}
-use Rattle.channel_core.specs.Callable.{IsCallable}
-use Rattle.channel_core.specs.Encodable.{CanBeEncoded}
+use Rattle.channel_core.specs.Condition.{CanBeEncoded, IsCallable}
 use Rattle.channel_core.specs.Exchange.{IsExchange, pull_count}
 use Rattle.channel_core.specs.History.{acked_numbers, emitted_acks, early_items, emissions, is_closed, is_paused, is_up, next_in_order, owed_acks, owed_numbers, put_items, released_items, taken_items, unacked_numbers}
 use Rattle.channel_core.specs.Legal.{IsAnswered, IsLegal}

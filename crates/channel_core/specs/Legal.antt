@@ -7,13 +7,13 @@ use Rattle.receive_window.specs.Window.{items_in_order}
 use Rattle.resend_queue.specs.Queue.{max_dues}
 use Rattle.channel_core.specs.declared.call.EndAnswer.{EndAnswer}
 use Rattle.channel_core.specs.declared.call.EndCall.{EndCall}
-use Rattle.channel_core.specs.declared.hearing.Heard.{Heard}
-use Rattle.channel_core.specs.declared.hearing.Incoming.{Incoming}
-use Rattle.channel_core.specs.declared.look.Look.{Look}
-use Rattle.channel_core.specs.declared.pulling.Outgoing.TheVariants as Outgoing
-use Rattle.channel_core.specs.declared.pulling.Pull.{Pull}
-use Rattle.channel_core.specs.declared.put.Put.{Put}
-use Rattle.channel_core.specs.declared.tick.Tick.{Tick}
+use Rattle.channel_core.specs.declared.answer.Heard.{Heard}
+use Rattle.channel_core.specs.declared.message.Incoming.{Incoming}
+use Rattle.channel_core.specs.declared.answer.Look.{Look}
+use Rattle.channel_core.specs.declared.message.Outgoing.TheVariants as Outgoing
+use Rattle.channel_core.specs.declared.answer.Pull.{Pull}
+use Rattle.channel_core.specs.declared.answer.Put.{Put}
+use Rattle.channel_core.specs.declared.answer.Tick.{Tick}
 use Rattle.channel_core.specs.Call.{Entry, with_earlier}
 use Rattle.channel_core.specs.History.{PutMessage, acked_numbers, emitted_numbers, is_closed, is_paused, is_up, lowest_unacked, next_in_order, owed_acks, put_messages, taken_items}
 use Rattle.channel_core.specs.Numbers.{has_number, least_absent, least_below, numbers_of}

@@ -1,7 +1,6 @@
 pub mod Arrival
 pub mod Call
-pub mod Callable
-pub mod Encodable
+pub mod Condition
 pub mod Exchange
 pub mod History
 pub mod Laws

@@ -4,10 +4,10 @@ use Rattle.std.specs.List.{count_by, filter, filter_map, fold}
 use Rattle.resend_queue.specs.RoundTrips.{RoundTrip, after_samples}
 use Rattle.channel_core.specs.declared.call.EndAnswer.{EndAnswer}
 use Rattle.channel_core.specs.declared.call.EndCall.{EndCall}
-use Rattle.channel_core.specs.declared.hearing.Heard.TheVariants as Heard
-use Rattle.channel_core.specs.declared.pulling.Outgoing.TheVariants as Outgoing
-use Rattle.channel_core.specs.declared.pulling.Pull.TheVariants as Pull
-use Rattle.channel_core.specs.declared.tick.Tick.TheVariants as Tick
+use Rattle.channel_core.specs.declared.answer.Heard.TheVariants as Heard
+use Rattle.channel_core.specs.declared.message.Outgoing.TheVariants as Outgoing
+use Rattle.channel_core.specs.declared.answer.Pull.TheVariants as Pull
+use Rattle.channel_core.specs.declared.answer.Tick.TheVariants as Tick
 use Rattle.channel_core.specs.Call.{Entry, with_earlier}
 use Rattle.channel_core.specs.History.{acked_numbers, put_messages}
 use Rattle.channel_core.specs.Numbers.{has_number}

@@ -6,11 +6,11 @@ use Rattle.chan_values.specs.declared.item.Item.{Item}
 use Rattle.resend_queue.specs.declared.answer.Sent.{Sent}
 use Rattle.channel_core.specs.declared.call.EndAnswer.{EndAnswer}
 use Rattle.channel_core.specs.declared.call.EndCall.{EndCall}
-use Rattle.channel_core.specs.declared.hearing.Heard.TheVariants as Heard
-use Rattle.channel_core.specs.declared.hearing.Incoming.TheVariants as Incoming
-use Rattle.channel_core.specs.declared.pulling.Outgoing.TheVariants as Outgoing
-use Rattle.channel_core.specs.declared.pulling.Pull.TheVariants as Pull
-use Rattle.channel_core.specs.declared.tick.Tick.TheVariants as Tick
+use Rattle.channel_core.specs.declared.answer.Heard.TheVariants as Heard
+use Rattle.channel_core.specs.declared.message.Incoming.TheVariants as Incoming
+use Rattle.channel_core.specs.declared.message.Outgoing.TheVariants as Outgoing
+use Rattle.channel_core.specs.declared.answer.Pull.TheVariants as Pull
+use Rattle.channel_core.specs.declared.answer.Tick.TheVariants as Tick
 use Rattle.channel_core.specs.Call.{Entry}
 use Rattle.channel_core.specs.History.{owed_acks}
 

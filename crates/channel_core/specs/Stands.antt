@@ -1,5 +1,5 @@
 -- What an end keeps, and the histories that it stands for.
-use Rattle.std.specs.Prelude.{◌≡◌, ℕ, ◌^◌, ◌<◌, Bool, Some, None, List, [], ◌∷◌, ◌++◌, length, if◌then◌else◌, slice_get}
+use Rattle.std.specs.Prelude.{◌≡◌, ℕ, Bool, Some, None, List, [], ◌∷◌, ◌++◌, length, if◌then◌else◌, slice_get}
 use Rattle.std.specs.List.{filter_map}
 use Rattle.std.specs.List.Sorted.{IsPermutation}
 use Rattle.std.specs.Option.{option_map}
@@ -8,7 +8,6 @@ use Rattle.resend_queue.specs.RoundTrips.{RoundTrip}
 use Rattle.receive_window.specs.Window.{WindowState}
 use Rattle.channel_core.specs.declared.call.EndAnswer.{EndAnswer}
 use Rattle.channel_core.specs.declared.call.EndCall.{EndCall}
-use Rattle.channel_core.specs.declared.hearing.Incoming.{Incoming}
 use Rattle.channel_core.specs.Call.{Entry}
 use Rattle.channel_core.specs.History.{PutMessage, early_items, emitted_numbers, is_closed, is_paused, is_up, lowest_unacked, next_in_order, owed_acks, put_messages, unacked_numbers}
 use Rattle.channel_core.specs.Legal.{IsLegal}
@@ -81,9 +80,3 @@ Follows old new call answer =
     → IsLegal w h
     → Stands w old h
     → IsLegal w (h ++ entry ∷ []) × Stands w new (h ++ entry ∷ [])
-
--- the number of what is heard is below 2^63
-abbrev pub IsNumbered : Incoming → Type 0
-IsNumbered (Incoming.Stream n id item) = n < 2 ^ 63
-IsNumbered (Incoming.Ack n) = n < 2 ^ 63
-IsNumbered incoming = Unit {0}

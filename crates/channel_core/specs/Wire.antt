@@ -1,5 +1,5 @@
 -- What an end sends as bytes. The names, flags and bodies are those of AWS Session Manager's channel.
-pub use Rattle.channel_core.specs.Encodable.{CanBeEncoded}
+pub use Rattle.channel_core.specs.Condition.{CanBeEncoded}
 use Rattle.std.specs.Prelude.{ℕ, ◌==◌, if◌then◌else◌, pos, true, List, codes}
 use Rattle.chan_values.specs.declared.side.Side.{Side}
 use Rattle.chan_values.specs.declared.side.Side.TheVariants.{Plugin, Agent}
@@ -9,7 +9,7 @@ use Rattle.agent_message.specs.Layout.{canonical}
 use Rattle.json_bodies.specs.declared.ack.Ack.{Ack}
 use Rattle.json_bodies.specs.Ack.{ack_text}
 use Rattle.resend_queue.specs.declared.answer.Sent.{Sent}
-use Rattle.channel_core.specs.declared.pulling.Outgoing.{Outgoing}
+use Rattle.channel_core.specs.declared.message.Outgoing.{Outgoing}
 
 -- MessageType of the stream messages that a side sends
 abbrev pub data_name : Side → List ℕ

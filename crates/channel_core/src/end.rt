@@ -16,11 +16,11 @@
 
 ghost use Rattle.std.specs.Prelude.{◌≡◌, ◌≤◌, ◌<◌, ◌^◌, ℕ, false, [], IfOk, length};
 ghost use Rattle.chan_values.specs.Limits.{max_payload, max_window};
-ghost use Rattle.channel_core.specs.Encodable.{CanBeEncoded, IfEmitted};
-ghost use Rattle.channel_core.specs.Stands.{Follows, IsNumbered, Stands};
+ghost use Rattle.channel_core.specs.Condition.{CanBeEncoded, IfEmitted, IsNumbered};
+ghost use Rattle.channel_core.specs.Stands.{Follows, Stands};
 ghost use Rattle.channel_core.specs.declared.call.EndAnswer.TheVariants as EndAnswer;
 ghost use Rattle.channel_core.specs.declared.call.EndCall.TheVariants as EndCall;
-ghost use Rattle.channel_core.specs.declared.hearing.Incoming.TheVariants as Incoming;
+ghost use Rattle.channel_core.specs.declared.message.Incoming.TheVariants as Incoming;
 
 use crate::owed::Owed;
 use crate::{Heard, Incoming, Look, Outgoing, Pull, Put, Tick};

@@ -4,23 +4,17 @@
 //! answers; `specs/` says which histories there may be, and `laws` what holds in all of them.
 #![tactic(auto)]
 
+mod answer;
 mod call;
 mod end;
-mod hearing;
 pub mod laws;
-mod look;
+mod message;
 mod owed;
-mod pulling;
-mod put;
 #[cfg(test)]
 mod tests;
-mod tick;
 pub mod wire;
 
+pub use answer::{Heard, Look, Pull, Put, Tick};
 pub use call::{EndAnswer, EndCall};
 pub use end::End;
-pub use hearing::{Heard, Incoming};
-pub use look::Look;
-pub use pulling::{Outgoing, Pull};
-pub use put::Put;
-pub use tick::Tick;
+pub use message::{Incoming, Outgoing};

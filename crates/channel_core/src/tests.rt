@@ -1,5 +1,5 @@
 ghost use Rattle.std.specs.Prelude.{◌<◌, ◌≤◌, ◌^◌, IfOk, length};
-ghost use Rattle.channel_core.specs.Stands.{IsNumbered};
+ghost use Rattle.channel_core.specs.Condition.{IsNumbered};
 
 use crate::{End, Heard, Incoming, Outgoing, Pull, Put, Tick};
 use chan_values::{Bytes, Item, Side};

@@ -6,8 +6,8 @@ use Rattle.chan_values.specs.declared.no_memory.NoMemory.{NoMemory}
 use Rattle.chan_values.specs.declared.side.Side.{Side}
 use Rattle.channel_core.specs.declared.call.EndAnswer.TheVariants as EndAnswer
 use Rattle.channel_core.specs.declared.call.EndCall.TheVariants as EndCall
-use Rattle.channel_core.specs.declared.hearing.Heard.{Heard}
-use Rattle.channel_core.specs.declared.hearing.Incoming.{Incoming}
+use Rattle.channel_core.specs.declared.answer.Heard.{Heard}
+use Rattle.channel_core.specs.declared.message.Incoming.{Incoming}
 use Rattle.channel_core.specs.Stands.{EndState, Follows}
 use Rattle.lab_script.specs.declared.outcome.Outcome.{Outcome}
 use Rattle.lab_cmd.specs.Ends.{IsCalled}

@@ -19,9 +19,9 @@ use Rattle.agent_message.proofs.Faults.{one_answer, past_digest, same_or_not, so
 use Rattle.agent_message.proofs.Spelling.{Decodes-canonical, only_message}
 use Rattle.channel_core.specs.Arrival.{Answer, Arrives, Hears, IsAnswer}
 use Rattle.channel_core.specs.Wire.{encoding, message_of}
-use Rattle.channel_core.specs.declared.pulling.Outgoing.{Outgoing}
-use Rattle.channel_core.specs.declared.hearing.Incoming.{Incoming}
-use Rattle.channel_core.specs.declared.wire.refusal.InRefusal.{InRefusal}
+use Rattle.channel_core.specs.declared.message.Outgoing.{Outgoing}
+use Rattle.channel_core.specs.declared.message.Incoming.{Incoming}
+use Rattle.channel_core.specs.declared.wire.InRefusal.{InRefusal}
 use Rattle.channel_core.proofs.ArrivalLemmas.{IsEncodable-message_of}
 use Rattle.lab_script.specs.declared.outcome.Outcome.TheVariants as Outcome
 use Rattle.lab_cmd.specs.Ends.{IsSendable}

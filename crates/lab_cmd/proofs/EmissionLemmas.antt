@@ -5,7 +5,7 @@ use Rattle.std.specs.Option.{option_map}
 use Rattle.std.proofs.lemmas.List.{length-map}
 use Rattle.std.proofs.lemmas.Option.{slice_get-map, slice_get_within, get_or_from_slice_get}
 use Rattle.chan_values.specs.declared.side.Side.{Side}
-use Rattle.channel_core.specs.declared.pulling.Outgoing.{Outgoing}
+use Rattle.channel_core.specs.declared.message.Outgoing.{Outgoing}
 use Rattle.channel_core.specs.Wire.{encoding}
 use Rattle.lab_script.specs.declared.which.Which.{Which}
 use Rattle.lab_script.specs.declared.which.Which.TheVariants.{Number, Last}

@@ -6,7 +6,7 @@ use Rattle.chan_values.specs.Sides.{other}
 use Rattle.chan_io.specs.Sinks.{Output, Writes, WritesPart}
 use Rattle.chan_io.specs.Sources.{Input}
 use Rattle.channel_core.specs.Arrival.{Answer, Arrives}
-use Rattle.channel_core.specs.declared.pulling.Outgoing.{Outgoing}
+use Rattle.channel_core.specs.declared.message.Outgoing.{Outgoing}
 use Rattle.channel_core.specs.Exchange.{IsExchange}
 use Rattle.channel_core.specs.History.{is_closed, put_items, released_items, taken_items}
 use Rattle.channel_core.specs.Laws.{IsPrefixOf}

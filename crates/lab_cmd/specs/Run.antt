@@ -11,13 +11,13 @@ use Rattle.chan_values.specs.declared.side.Side.TheVariants.{Plugin, Agent}
 use Rattle.chan_values.specs.Sides.{other}
 use Rattle.channel_core.specs.declared.call.EndAnswer.{EndAnswer}
 use Rattle.channel_core.specs.declared.call.EndCall.{EndCall}
-use Rattle.channel_core.specs.declared.hearing.Heard.{Heard}
-use Rattle.channel_core.specs.declared.hearing.Incoming.{Incoming}
-use Rattle.channel_core.specs.declared.pulling.Outgoing.{Outgoing}
-use Rattle.channel_core.specs.declared.pulling.Pull.{Pull}
-use Rattle.channel_core.specs.declared.put.Put.{Put}
-use Rattle.channel_core.specs.declared.tick.Tick.{Tick}
-use Rattle.channel_core.specs.declared.wire.refusal.InRefusal.{InRefusal}
+use Rattle.channel_core.specs.declared.answer.Heard.{Heard}
+use Rattle.channel_core.specs.declared.message.Incoming.{Incoming}
+use Rattle.channel_core.specs.declared.message.Outgoing.{Outgoing}
+use Rattle.channel_core.specs.declared.answer.Pull.{Pull}
+use Rattle.channel_core.specs.declared.answer.Put.{Put}
+use Rattle.channel_core.specs.declared.answer.Tick.{Tick}
+use Rattle.channel_core.specs.declared.wire.InRefusal.{InRefusal}
 use Rattle.channel_core.specs.Exchange.{incoming_of, opening}
 use Rattle.channel_core.specs.History.{emissions}
 use Rattle.channel_core.specs.Legal.{answer_to}

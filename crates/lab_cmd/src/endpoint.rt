@@ -2,7 +2,7 @@
 
 ghost use Rattle.std.specs.Prelude.{◌≡◌, ◌≤◌, ◌++◌, ◌∷◌, [], ℕ, List, IfOk, OnOk, Some};
 ghost use Rattle.chan_values.specs.Sides.{other};
-ghost use Rattle.channel_core.specs.declared.hearing.Incoming.TheVariants as Incoming;
+ghost use Rattle.channel_core.specs.declared.message.Incoming.TheVariants as Incoming;
 ghost use Rattle.channel_core.specs.Exchange.{opening};
 ghost use Rattle.channel_core.specs.World.{Event, IsLegalWorld, history_of};
 ghost use Rattle.lab_script.specs.Command.{IsCommand};

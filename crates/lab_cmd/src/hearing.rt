@@ -4,7 +4,7 @@ ghost use Rattle.std.specs.Prelude.{◌≡◌, ℕ, ◌+◌, ◌<◌, ◌≤◌,
 ghost use Rattle.std.specs.Option.{option_copied};
 ghost use Rattle.chan_values.specs.Sides.{other};
 ghost use Rattle.channel_core.specs.declared.call.EndCall.TheVariants as EndCall;
-ghost use Rattle.channel_core.specs.declared.pulling.Outgoing.{Outgoing};
+ghost use Rattle.channel_core.specs.declared.message.Outgoing.{Outgoing};
 ghost use Rattle.channel_core.specs.Exchange.{incoming_of};
 ghost use Rattle.channel_core.specs.Wire.{encoding};
 ghost use Rattle.lab_cmd.specs.Ends.{IsCalled, IsSendable};

@@ -1,8 +1,8 @@
 //! What is reported of an answer.
 
 ghost use Rattle.std.specs.Prelude.{◌≡◌, ◌≢◌, IfOk};
-ghost use Rattle.channel_core.specs.declared.hearing.Incoming.{Incoming};
-ghost use Rattle.channel_core.specs.declared.hearing.Heard.TheVariants as Heard;
+ghost use Rattle.channel_core.specs.declared.message.Incoming.{Incoming};
+ghost use Rattle.channel_core.specs.declared.answer.Heard.TheVariants as Heard;
 ghost use Rattle.lab_cmd.specs.Run.{is_emission, outcome_of_heard, outcome_of_refusal};
 
 use chan_values::NoMemory;

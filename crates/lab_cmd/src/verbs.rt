@@ -3,7 +3,7 @@
 ghost use Rattle.std.specs.Prelude.{◌≡◌, ◌≤◌, ℕ, IfOk, length};
 ghost use Rattle.chan_values.specs.declared.side.Side.{Side};
 ghost use Rattle.channel_core.specs.declared.call.EndCall.TheVariants as EndCall;
-ghost use Rattle.channel_core.specs.Stands.{IsNumbered};
+ghost use Rattle.channel_core.specs.Condition.{IsNumbered};
 ghost use Rattle.lab_cmd.specs.Ends.{IsCalled};
 ghost use Rattle.lab_cmd.specs.Run.{id_of};
 

@@ -1,7 +1,7 @@
 use Rattle.std.proofs.Common.{◌≡◌, ⊎_elim, ◌∙◌}
 use Rattle.chan_values.specs.Sides.{other}
 use Rattle.channel_core.specs.Exchange.{incoming_of}
-use Rattle.channel_core.specs.declared.wire.refusal.InRefusal.TheVariants as InRefusal
+use Rattle.channel_core.specs.declared.wire.InRefusal.TheVariants as InRefusal
 use Rattle.std.proofs.lemmas.Result.{IfOk-weaker}
 use Rattle.lab_cmd.proofs.EmissionLemmas.{IsEmission, IsEmission-found}
 use Rattle.lab_cmd.proofs.hearing.hear.Goals as goal

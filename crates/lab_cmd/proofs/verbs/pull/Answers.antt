@@ -1,7 +1,7 @@
 use Rattle.std.proofs.Common.{[], refl, ap, ◌∙◌}
 use Rattle.std.proofs.lemmas.List.Elements.{All-nil, All-push}
 use Rattle.channel_core.specs.declared.call.EndAnswer.TheVariants as EndAnswer
-use Rattle.channel_core.specs.declared.pulling.Pull.TheVariants as Pull
+use Rattle.channel_core.specs.declared.answer.Pull.TheVariants as Pull
 use Rattle.lab_script.specs.declared.outcome.Outcome.TheVariants as Outcome
 use Rattle.lab_cmd.specs.Ends.{IsSendable}
 use Rattle.lab_cmd.proofs.verbs.pull.Goals as goal

@@ -1,7 +1,7 @@
 use Rattle.std.proofs.Common.{refl}
 use Rattle.std.proofs.lemmas.List.Elements.{All-nil}
 use Rattle.channel_core.specs.declared.call.EndAnswer.TheVariants as EndAnswer
-use Rattle.channel_core.specs.declared.put.Put.TheVariants as Put
+use Rattle.channel_core.specs.declared.answer.Put.TheVariants as Put
 use Rattle.lab_cmd.proofs.verbs.put.Goals as goal
 
 pub returns-in-Seq : goal.returns-in-Seq

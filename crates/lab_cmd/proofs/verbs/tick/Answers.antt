@@ -1,7 +1,7 @@
 use Rattle.std.proofs.Common.{refl}
 use Rattle.std.proofs.lemmas.List.Elements.{All-nil}
 use Rattle.channel_core.specs.declared.call.EndAnswer.TheVariants as EndAnswer
-use Rattle.channel_core.specs.declared.tick.Tick.TheVariants as Tick
+use Rattle.channel_core.specs.declared.answer.Tick.TheVariants as Tick
 use Rattle.lab_cmd.proofs.verbs.tick.Goals as goal
 
 pub returns-in-Nothing : goal.returns-in-Nothing

@@ -2,7 +2,7 @@ use Rattle.std.proofs.Common.{◌≡◌, ◌∷◌, ◌∙◌, [], length, refl,
 use Rattle.std.proofs.lemmas.List.{length-map}
 use Rattle.chan_values.specs.Sides.{other}
 use Rattle.channel_core.specs.declared.call.EndCall.{EndCall}
-use Rattle.channel_core.specs.declared.hearing.Incoming.TheVariants as Incoming
+use Rattle.channel_core.specs.declared.message.Incoming.TheVariants as Incoming
 use Rattle.channel_core.specs.History.{emissions}
 use Rattle.channel_core.specs.Wire.{encoding}
 use Rattle.channel_core.specs.World.{history_of}

@@ -6,7 +6,7 @@ use Rattle.agent_message.specs.declared.refusal.Refusal.TheVariants as Refusal
 use Rattle.channel_core.specs.Arrival.{refusal_of}
 use Rattle.channel_core.specs.Wire.{message_of}
 use Rattle.channel_core.proofs.ArrivalLemmas.{IsAnswer-heard, IsAnswer-refused, IsEncodable-message_of, heard_again}
-use Rattle.channel_core.proofs.wire.decoding.incoming.Goals as goal
+use Rattle.channel_core.proofs.wire.decode.incoming.Goals as goal
 
 pub returns-in_err-message-clause-answer : goal.returns-in_err-message-clause-answer
 returns-in_err-message-clause-answer c =

@@ -4,7 +4,7 @@ use Rattle.json_bodies.specs.declared.body_fault.BodyFault.TheVariants as BodyFa
 use Rattle.channel_core.specs.Arrival.{refusal_of_body}
 use Rattle.channel_core.specs.Wire.{ack_body}
 use Rattle.channel_core.proofs.ArrivalLemmas.{IsWritableAck-ack_body, never_negative, magnitude}
-use Rattle.channel_core.proofs.wire.decoding.acknowledgement.Goals as goal
+use Rattle.channel_core.proofs.wire.decode.acknowledgement.Goals as goal
 
 pub returns-in_err-ack-clause-written : goal.returns-in_err-ack-clause-written
 returns-in_err-ack-clause-written c = λ side seq id small long bytes is.

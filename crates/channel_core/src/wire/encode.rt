@@ -5,7 +5,7 @@ ghost use Rattle.agent_message.specs.Layout.{IsMessage};
 ghost use Rattle.json_bodies.specs.Ack.{ack_text};
 ghost use Rattle.channel_core.specs.Wire.{CanBeEncoded, ack_body, ack_message, data_name, encoding, message_of, stream_flags, stream_message};
 
-use crate::pulling::Outgoing;
+use crate::Outgoing;
 use agent_message::{Message, Name, encode};
 use chan_values::{Bytes, Item, NoMemory, Side, Text};
 use json_bodies::Ack;
