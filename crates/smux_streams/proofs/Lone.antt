@@ -24,10 +24,10 @@ use Rattle.smux_store.specs.Kept.{holding, untaken, IsOrderly}
 use Rattle.smux_store.proofs.OrderLemmas.{act_goes, count_in, gained, holding_start, living_start, opened_inv, orderly_start}
 use Rattle.smux_streams.specs.declared.answers.Fed.{Fed}
 use Rattle.smux_streams.specs.declared.answers.Write.TheVariants as writes
-use Rattle.smux_streams.specs.Call.{Entry, Opens, Writes, Closes, Outs, Feeds, Takes, Holds}
+use Rattle.smux_streams.specs.Call.{Entry, Opens, Writes, Closes, Outs, Feeds, Takes, Holds, IsCall}
 use Rattle.smux_streams.specs.History.{Seen, acted, acts_of, byte_seen, come, entry_seen, given, given_in, left, outbytes, seen, signal_of, with_fault}
 use Rattle.smux_streams.specs.Laws.{BoundsHold, NothingAfterEnd, taken_in, tells_end}
-use Rattle.smux_streams.specs.Legal.{IsAnswered, Answers, IsCall, IsLegal, Run, has_room, run, run_by, take_answer, waits, waits_by}
+use Rattle.smux_streams.specs.Legal.{IsAnswered, Answers, IsLegal, Run, has_room, run, run_by, take_answer, waits, waits_by}
 use Rattle.smux_streams.proofs.OutLemmas.{bytes_opt, left_push, outbytes_push}
 use Rattle.smux_streams.proofs.KeepLemmas.{given_push, seen_push}
 use Rattle.smux_streams.proofs.FeedLemmas.{run_seen}

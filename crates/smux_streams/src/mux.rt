@@ -16,9 +16,10 @@
 
 ghost use Rattle.std.specs.Prelude.{◌≡◌, ◌≢◌, ◌<◌, ◌≤◌, ◌++◌, ◌+◌, [], IfOk, IfErr, OnOk, OnErr, IfSome, Some, None, ℕ, length, true, false, nat_le};
 ghost use Rattle.std.specs.Result.{result_ok};
-ghost use Rattle.smux_frames.specs.Spelling.{spelling};
+ghost use Rattle.smux_frames.specs.Spelling.{max_written_data, spelling};
 ghost use Rattle.smux_frames.specs.declared.frame.Cmd.TheVariants as Cmd;
 ghost use Rattle.smux_streams.specs.Call.{Opens, Writes, Closes, Outs, Feeds, Takes, Holds};
+ghost use Rattle.smux_streams.specs.Limits.{max_held, max_out};
 ghost use Rattle.smux_streams.specs.Stands.{MuxState, Stands, Follows, Forgets};
 ghost use Rattle.smux_store.specs.Streams.{held_after};
 
@@ -63,7 +64,8 @@ pub struct Mux {
 }
 
 impl Model for Mux {
-    ghost use Rattle.std.specs.Prelude.{◌≤◌, length};
+    ghost use Rattle.std.specs.Prelude.{length};
+    ghost use Rattle.smux_streams.specs.Limits.{IsWithinLimits};
     ghost use Rattle.smux_streams.specs.Stands.{MuxState};
 
     ghost Value = { MuxState };
@@ -79,8 +81,7 @@ impl Model for Mux {
       held = m.held;
     } };
 
-    ghost invariant = { λ m.
-        (m.living ≤ 1024) × (length m.out ≤ 1048576) × (m.held ≤ 4194304) × (m.begun ≤ 2147483647) };
+    ghost invariant = { λ m. IsWithinLimits m.living (length m.out) m.held m.begun };
 }
 
 impl Mux {
@@ -146,7 +147,7 @@ impl Mux {
     /// Writes bytes to a stream, in one frame.
     pub fn write(&mut self, sid: u32, bytes: &[u8]) -> Write
         requires some { 0 < length bytes.now }
-        requires small { length bytes.now ≤ 32768 }
+        requires small { length bytes.now ≤ max_written_data }
         ensures { Follows self.old self.new (Writes sid bytes.now result) }
     {
         let Some(stream) = self.streams.get(&sid) else {
@@ -188,7 +189,7 @@ impl Mux {
     /// The first outgoing bytes, at most `max`. They leave.
     pub fn out(&mut self, max: usize) -> Result<Bytes, NoMemory>
         ensures follows { Follows self.old self.new (Outs max (result_ok result)) }
-        ensures bounded { length self.old.out ≤ MAX_OUT }
+        ensures bounded { length self.old.out ≤ max_out }
     {
         self.out.take_front(max)
     }
@@ -207,7 +208,7 @@ impl Mux {
     /// How many bytes wait to be taken, of all streams.
     pub fn held(&self) -> u64
         ensures follows { Follows self.now self.now (Holds result) }
-        ensures bounded { result ≤ MAX_HELD }
+        ensures bounded { result ≤ max_held }
     {
         self.held
     }
@@ -223,17 +224,17 @@ impl Mux {
 
     /// Whether the outgoing bytes have room for a frame with so many bytes of data.
     fn has_room(&self, size: usize) -> bool
-        requires { size ≤ 32768 }
-        ensures { result ≡ nat_le (length self.now.out + (8 + size)) 1048576 }
+        requires { size ≤ max_written_data }
+        ensures { result ≡ nat_le (length self.now.out + (8 + size)) max_out }
     {
         self.out.len() + (HEADER_LEN + size) <= MAX_OUT
     }
 
     /// Adds a frame to the outgoing bytes.
     fn send(&mut self, cmd: Cmd, sid: u32, payload: &[u8]) -> Result<(), NoMemory>
-        requires small { length payload.now ≤ 32768 }
+        requires small { length payload.now ≤ max_written_data }
         requires empty { cmd ≢ Cmd.Psh → payload.now ≡ [] }
-        requires room { length self.old.out + (8 + length payload.now) ≤ 1048576 }
+        requires room { length self.old.out + (8 + length payload.now) ≤ max_out }
         ensures ok { OnOk result (self.new ≡ record self.old {
           out = self.old.out ++ spelling (record { cmd = cmd; sid = sid; payload = payload.now });
         }) }

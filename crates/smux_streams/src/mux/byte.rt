@@ -1,6 +1,7 @@
 //! One byte of the other end, and the frame that may be whole with it.
 
 ghost use Rattle.std.specs.Prelude.{◌≡◌, ◌≤◌, IfOk, OnErr, None, length, true, false};
+ghost use Rattle.smux_acts.specs.Acts.{max_streams};
 ghost use Rattle.smux_frames.specs.declared.frame.Frame.{Frame};
 ghost use Rattle.smux_frames.specs.Reading.{frame_now};
 ghost use Rattle.smux_frames.specs.declared.frame.Cmd.TheVariants as Cmd;
@@ -79,7 +80,7 @@ impl Mux {
         requires whole { (f : Frame) × IsWhole self.old byte f Cmd.Syn sid (length f.payload) }
         requires server { self.old.client ≡ false }
         requires fresh { is_above self.old.last sid ≡ true }
-        requires many { 1024 ≤ self.old.living }
+        requires many { max_streams ≤ self.old.living }
         ensures passes { IfOk result (λ went.
             Passes self.old self.new byte trail.old.events.items trail.new.events.items went) }
         ensures back { LeadsBack self.old self.new trail.old.steps.items trail.new.steps.items }

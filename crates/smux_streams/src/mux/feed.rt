@@ -1,7 +1,9 @@
 //! The bytes of the other end.
 
 ghost use Rattle.std.specs.Prelude.{◌≡◌, ◌<◌, ◌≤◌, [], IfOk, IfSome, OnErr, Some, None, length};
+ghost use Rattle.smux_acts.specs.Acts.{max_streams};
 ghost use Rattle.smux_streams.specs.Call.{Feeds};
+ghost use Rattle.smux_streams.specs.Limits.{max_held};
 ghost use Rattle.smux_streams.specs.Stands.{Follows};
 ghost use Rattle.smux_streams.specs.Steps.{Absorbs, KeepsFault, LeadsBack, Restores, Runs};
 
@@ -86,8 +88,8 @@ impl Mux {
 
     /// Puts back what a feed changed.
     fn restore(&mut self, mark: Mark, trail: Trail)
-        requires living { mark.living ≤ 1024 }
-        requires held { mark.held ≤ 4194304 }
+        requires living { mark.living ≤ max_streams }
+        requires held { mark.held ≤ max_held }
         ensures { Restores self.old self.new mark trail.steps.items }
     {
         walk_back(&mut self.streams, trail.steps);
