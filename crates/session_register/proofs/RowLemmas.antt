@@ -11,11 +11,11 @@ use Rattle.std.specs.BTreeMap.{BTreeMap, Updates, insert_entry, is_at}
 use Rattle.std.proofs.lemmas.Map.Lookups.{exact_bytes}
 use Rattle.chan_values.specs.declared.side.Side.{Side}
 use Rattle.chan_values.specs.declared.side.Side.TheVariants.{Plugin, Agent}
-use Rattle.session_register.specs.declared.register.Open.{Open}
+use Rattle.session_register.specs.declared.answer.Open.{Open}
 use Rattle.session_register.specs.declared.row.Row.{Row}
 use Rattle.session_register.specs.Names.{same_name}
 use Rattle.session_register.specs.Rows.{Changes, Entry, Finds, IsAnswered, Meets, IsRow, Puts, opened_row, row_after, row_of, session_of}
-use Rattle.session_register.specs.Entries.{AreNamed, rows_in}
+use Rattle.session_register.specs.MapRows.{AreNamed, rows_in}
 use Rattle.session_register.proofs.NameLemmas.{same_name-key, same_name-true}
 
 named-by : (b : Bool) (session : List ℕ) (first row : Row) (found : Option Row)
@@ -56,8 +56,12 @@ meets-put entry (Some rows) mid after found row finds same puts named answered b
     let after_is : row_after entry (row_of rows (session_of entry)) ≡ Some row =
     ap (row_after entry) (sym finds) ∙ becomes in (
       subst (λ (f : Option Row). IsAnswered f entry) finds answered,
-      (put.0, put.1, λ session. put.2 session
-          ∙ (λ i. cond (same_name (is_named i) session) (sym after_is i) (row_of rows session))),
+      (
+        put.0,
+        put.1,
+        λ session. put.2 session
+            ∙ (λ i. cond (same_name (is_named i) session) (sym after_is i) (row_of rows session)),
+      ),
     )
 
 stays-by : (b : Bool) (rows : List Row) (asked session : List ℕ) (after : Option Row)

@@ -1,16 +1,18 @@
 -- What a list of calls with their answers tells of the rows: tokens, ends and openings.
-use Rattle.std.specs.Prelude.{◌≡◌, ℕ, ◌+◌, ◌≤◌, min, Bool, true, false, ◌&&◌, Option, Some, None, List, [], ◌∷◌, ◌++◌, take, drop, length, reverse, if◌then◌else◌}
-use Rattle.std.specs.List.{All, filter_map, list_any, count_by}
+use Rattle.std.specs.Prelude.{◌≡◌, ℕ, ◌+◌, ◌≤◌, min, Bool, true, false, ◌&&◌, Option, Some, None, List, [], ◌∷◌, ◌++◌, map, drop, length, reverse, if◌then◌else◌}
+use Rattle.std.specs.Option.{option_map}
+use Rattle.std.specs.List.{filter_map, list_any, count_by}
 use Rattle.chan_values.specs.declared.side.Side.{Side}
 use Rattle.chan_values.specs.declared.side.Side.TheVariants.{Plugin, Agent}
 use Rattle.session_register.specs.declared.token.Token.{Token}
 use Rattle.session_register.specs.declared.row.Chain.{Chain}
 use Rattle.session_register.specs.declared.row.Row.{Row}
-use Rattle.session_register.specs.declared.register.Created.{Created}
-use Rattle.session_register.specs.declared.register.Open.{Open}
-use Rattle.session_register.specs.declared.register.Closing.{Closing}
+use Rattle.session_register.specs.declared.row.OldRow.{OldRow}
+use Rattle.session_register.specs.declared.answer.Created.{Created}
+use Rattle.session_register.specs.declared.answer.Open.{Open}
+use Rattle.session_register.specs.declared.answer.Closing.{Closing}
 use Rattle.session_register.specs.Names.{same_name}
-use Rattle.session_register.specs.Rows.{Entry, Creates, Opens, Ends, IsAnswered, Meets, greatest, row_of, session_of}
+use Rattle.session_register.specs.Rows.{Entry, Creates, Opens, Ends, IsAnswered, Meets, greatest, old_row_of, row_of, session_of, uncounted, upgraded}
 
 abbrev pub same_side : Side → Side → Bool
 same_side Plugin Plugin = true
@@ -104,3 +106,19 @@ Leads rows (entry ∷ cs) new =
 abbrev pub ChainsHold : Type 0
 ChainsHold = (cs : List Entry) (rows : List Row) → Leads [] cs rows
     → AreAnswered 0 [] cs × Shows 0 cs rows
+
+-- ---- openings that are counted from a place on
+
+-- rows without counts are what the calls tell
+abbrev pub ShowsOld : List Entry → List OldRow → Type 0
+ShowsOld cs old = (session : List ℕ)
+    → old_row_of old session ≡ option_map uncounted (row_told 0 cs session)
+
+-- Calls made before openings were counted left rows without counts, and later calls were made over
+-- these rows, upgraded. All of them make one list: each got the answer that those before it give,
+-- where an answer Same before the place between them is not counted.
+abbrev pub ChainsGoOn : Type 0
+ChainsGoOn = (before cs : List Entry) (old : List OldRow) (rows : List Row)
+    → AreAnswered (length before) [] before → ShowsOld before old
+    → Leads (map upgraded old) cs rows
+    → AreAnswered (length before) [] (before ++ cs) × Shows (length before) (before ++ cs) rows

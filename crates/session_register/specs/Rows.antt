@@ -8,9 +8,9 @@ use Rattle.session_register.specs.declared.row.Chain.{Chain}
 use Rattle.session_register.specs.declared.row.Row.{Row}
 use Rattle.session_register.specs.declared.row.OldChain.{OldChain}
 use Rattle.session_register.specs.declared.row.OldRow.{OldRow}
-use Rattle.session_register.specs.declared.register.Created.{Created}
-use Rattle.session_register.specs.declared.register.Open.{Open}
-use Rattle.session_register.specs.declared.register.Closing.{Closing}
+use Rattle.session_register.specs.declared.answer.Created.{Created}
+use Rattle.session_register.specs.declared.answer.Open.{Open}
+use Rattle.session_register.specs.declared.answer.Closing.{Closing}
 use Rattle.session_register.specs.Names.{same_name}
 
 -- where counts stop
@@ -48,7 +48,26 @@ upgraded row =
       agent = upgraded_chain row.agent;
     }
 
+-- a chain less its count of openings
+abbrev pub uncounted_chain : Chain → OldChain
+uncounted_chain chain = record { last = chain.last; prev = chain.prev }
+
+-- a row as a store has it that counts no openings
+abbrev pub uncounted : Row → OldRow
+uncounted row =
+    record {
+      session = row.session;
+      ended = row.ended;
+      plugin = uncounted_chain row.plugin;
+      agent = uncounted_chain row.agent;
+    }
+
 -- ---- the row of a session
+
+abbrev pub old_row_of : List OldRow → List ℕ → Option OldRow
+old_row_of [] session = None
+old_row_of (row ∷ rows) session =
+    if same_name session row.session then Some row else old_row_of rows session
 
 abbrev pub row_of : List Row → List ℕ → Option Row
 row_of [] session = None

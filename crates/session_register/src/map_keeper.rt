@@ -19,7 +19,7 @@ pub struct MapKeeper {
 impl Model for MapKeeper {
     ghost use Rattle.std.specs.Prelude.{List};
     ghost use Rattle.session_register.specs.declared.row.Row.{Row};
-    ghost use Rattle.session_register.specs.Entries.{AreNamed, IsRows, rows_in};
+    ghost use Rattle.session_register.specs.MapRows.{AreNamed, IsRows, rows_in};
 
     ghost Value = { List Row };
 

@@ -1,12 +1,12 @@
-//! The rows of a SQL store, by its statements.
+//! The row of one session in a SQL store, once its tables are there.
 
-ghost use Rattle.std.specs.Prelude.{◌≡◌, None, IfOk, IfSome, OnErr, OnOk};
+ghost use Rattle.std.specs.Prelude.{◌≡◌, None, Some, IfOk, IfSome, OnErr, OnOk};
 ghost use Rattle.sqlite.specs.Held.{state};
-ghost use Rattle.register_sql.specs.RawRows.{new_row_of, new_rows, old_row_of, old_rows};
-ghost use Rattle.register_sql.specs.Stores.{After, HasSameRows, IsAtRest, IsSure, Stays};
+ghost use Rattle.register_sql.specs.RawRows.{old_row_of, old_rows};
+ghost use Rattle.register_sql.specs.Stores.{After, HasSameRows, IsAtRest, IsSure, LeavesRows, Stays};
 ghost use Rattle.register_sql.specs.Tables.{HasBoth, HasSome};
 ghost use Rattle.session_register.specs.Rows.{IsRow};
-ghost use Rattle.session_register.specs.Stored.{PutsTold, told, told_at};
+ghost use Rattle.session_register.specs.Stored.{PutsRow, read_at, read_both};
 
 use crate::name::SessionName;
 use crate::row::Row;
@@ -17,17 +17,16 @@ use register_sql::{prepare, select_old, select_row, upsert_row};
 use sqlite::{Alter, Connection};
 use std::alloc::Global;
 
-/// The row of a session, once the tables are there.
+/// The row of a session. One that is stored as it should not be is a failure.
 pub(crate) fn fetch<S: Alter>(
     store: &mut Connection<S>,
     alloc: Global,
     session: &SessionName,
 ) -> Result<Option<Row>, IoFault>
     ensures rests { After HasSome (state S.Store store.old) (state S.Store store.new)
-        (IsAtRest (state S.Store store.new) × HasSome (state S.Store store.new).now.schema
-        × HasSameRows (state S.Store store.old).now (state S.Store store.new).now) }
+        (LeavesRows (state S.Store store.old) (state S.Store store.new)) }
     ensures found { After HasSome (state S.Store store.old) (state S.Store store.new)
-        (IfOk result (λ row. row ≡ told_at session.now (state S.Store store.old).now)) }
+        (IfOk result (λ row. read_at session.now (state S.Store store.old).now ≡ Some row)) }
     ensures kept { IfOk result (λ row. IfSome row IsRow) }
 {
     prepare(store)?;
@@ -40,7 +39,7 @@ fn find<S: Alter>(store: &mut Connection<S>, name: &Text) -> Result<Option<Row>,
     ensures same { After HasBoth (state S.Store store.old) (state S.Store store.new)
         (Stays (state S.Store store.old) (state S.Store store.new)) }
     ensures found { After HasBoth (state S.Store store.old) (state S.Store store.new)
-        (IfOk result (λ row. row ≡ told_at name.now (state S.Store store.old).now)) }
+        (IfOk result (λ row. read_at name.now (state S.Store store.old).now ≡ Some row)) }
     ensures kept { IfOk result (λ row. IfSome row IsRow) }
 {
     match select_row(store, name)? {
@@ -56,8 +55,9 @@ fn find_old<S: Alter>(store: &mut Connection<S>, name: &Text) -> Result<Option<R
     ensures sure { IsSure (state S.Store store.new) → IsSure (state S.Store store.old) }
     ensures same { After HasBoth (state S.Store store.old) (state S.Store store.new)
         (Stays (state S.Store store.old) (state S.Store store.new)) }
-    ensures found { After HasBoth (state S.Store store.old) (state S.Store store.new)
-        (IfOk result (λ row. row ≡ told None (old_row_of name.now (old_rows (state S.Store store.old).now)))) }
+    ensures found { let old = state S.Store store.old in
+        After HasBoth old (state S.Store store.new) (IfOk result (λ row.
+        read_both None (old_row_of name.now (old_rows old.now)) ≡ Some row)) }
     ensures kept { IfOk result (λ row. IfSome row IsRow) }
 {
     match select_old(store, name)? {
@@ -69,7 +69,7 @@ fn find_old<S: Alter>(store: &mut Connection<S>, name: &Text) -> Result<Option<R
     }
 }
 
-/// Puts a row in the place of the one of its session, or adds it, once the tables are there.
+/// Puts a row in the place of the one of its session, or adds it.
 pub(crate) fn save<S: Alter>(
     store: &mut Connection<S>,
     alloc: Global,
@@ -79,7 +79,7 @@ pub(crate) fn save<S: Alter>(
     ensures rests { After HasSome (state S.Store store.old) (state S.Store store.new)
         (IsAtRest (state S.Store store.new) × HasSome (state S.Store store.new).now.schema) }
     ensures puts { After HasSome (state S.Store store.old) (state S.Store store.new)
-        (OnOk result (PutsTold row.now (state S.Store store.old).now (state S.Store store.new).now)) }
+        (OnOk result (PutsRow row.now (state S.Store store.old).now (state S.Store store.new).now)) }
     ensures same { After HasSome (state S.Store store.old) (state S.Store store.new)
         (OnErr result (HasSameRows (state S.Store store.old).now (state S.Store store.new).now)) }
 {

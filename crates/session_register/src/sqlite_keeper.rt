@@ -1,14 +1,15 @@
 //! A keeper in a SQL store.
 
-ghost use Rattle.std.specs.Prelude.{◌≡◌, true, false, Some, [], IfOk, IfSome, OnErr, OnOk};
+ghost use Rattle.std.specs.Prelude.{◌≡◌, ◌≤◌, true, false, None, Some, Err, [], IfOk, IfSome, IsErrOf, OnErr, OnOk};
 ghost use Rattle.sqlite.specs.Steps.{over_memory};
-ghost use Rattle.session_register.specs.Kept.{AreSure, IsReady, rows_in, rows_told};
-ghost use Rattle.session_register.specs.Rows.{IsRow, Puts, row_of};
+ghost use Rattle.chan_io.specs.Faults.{Rises};
+ghost use Rattle.session_register.specs.Kept.{AreSure, IsReady, SaysRow, rows_in, rows_told};
+ghost use Rattle.session_register.specs.Rows.{Finds, IsRow, Puts, row_of};
 
 use crate::keeper::Keeper;
 use crate::name::SessionName;
 use crate::row::Row;
-use crate::statements::{fetch, save};
+use crate::sql_store::{fetch, save};
 use chan_io::IoFault;
 use chan_values::NoMemory;
 use sqlite::{Alter, Connection, MemStore};
@@ -37,7 +38,7 @@ impl<S: Alter + Drop> Model for SqliteKeeper<S> {
 }
 
 impl<S: Alter + Drop> SqliteKeeper<S> {
-    /// A keeper that tells nothing of its rows.
+    /// A keeper that tells nothing of its rows, as over a file.
     pub fn over(store: Option<Connection<S>>) -> SqliteKeeper<S>
         ensures { result ≡ record { store = store; faults = 0; tells = false } }
     {
@@ -60,6 +61,13 @@ impl<S: Alter + Drop> SqliteKeeper<S> {
             tells: true,
         }
     }
+
+    /// The store, to be closed or looked at.
+    pub fn into_store(self) -> Option<Connection<S>>
+        ensures { result ≡ self.store }
+    {
+        self.store
+    }
 }
 
 impl SqliteKeeper<MemStore> {
@@ -76,7 +84,18 @@ impl<S: Alter + Drop> Keeper for SqliteKeeper<S> {
 
     ghost faults = { λ k. k.faults };
 
-    fn get(&mut self, alloc: Global, session: &SessionName) -> Result<Option<Row>, IoFault> {
+    /// A stored row that is not as it should be is a failure, and so is a missing store.
+    fn get(&mut self, alloc: Global, session: &SessionName) -> Result<Option<Row>, IoFault>
+        ensures found { IfOk result
+            (λ row. Finds (rows_told S.Store self.old) session.now row) }
+        ensures said { self.old.tells ≡ true
+            → IfOk result (SaysRow S.Store self.old.store session.now) }
+        ensures kept { IfOk result (λ row. IfSome row IsRow) }
+        ensures same { rows_told S.Store self.new ≡ rows_told S.Store self.old }
+        ensures failed { IsErrOf result IoFault.Failed → Rises self.old.faults self.new.faults }
+        ensures counted { self.old.faults ≤ self.new.faults }
+        ensures no_store { self.old.store ≡ None → result ≡ Err IoFault.Failed }
+    {
         match fetch_in(&mut self.store, alloc, session) {
             Err(IoFault::Failed) => {
                 self.faults = self.faults.saturating_add(1);
@@ -86,7 +105,15 @@ impl<S: Alter + Drop> Keeper for SqliteKeeper<S> {
         }
     }
 
-    fn put(&mut self, alloc: Global, row: Row) -> Result<(), IoFault> {
+    fn put(&mut self, alloc: Global, row: Row) -> Result<(), IoFault>
+        requires { IsRow row }
+        ensures puts { OnOk result
+            (Puts row (rows_told S.Store self.old) (rows_told S.Store self.new)) }
+        ensures same { OnErr result (rows_told S.Store self.new ≡ rows_told S.Store self.old) }
+        ensures failed { IsErrOf result IoFault.Failed → Rises self.old.faults self.new.faults }
+        ensures counted { self.old.faults ≤ self.new.faults }
+        ensures no_store { self.old.store ≡ None → result ≡ Err IoFault.Failed }
+    {
         match save_in(&mut self.store, alloc, &row) {
             Err(IoFault::Failed) => {
                 self.faults = self.faults.saturating_add(1);
@@ -107,9 +134,14 @@ fn fetch_in<S: Alter>(
     session: &SessionName,
 ) -> Result<Option<Row>, IoFault>
     ensures ready { AreSure S.Store → IsReady S.Store store.old → IsReady S.Store store.new }
-    ensures same { AreSure S.Store → IsReady S.Store store.old → rows_in S.Store store.new ≡ rows_in S.Store store.old }
-    ensures found { AreSure S.Store → IsReady S.Store store.old → IfOk result (λ row. row ≡ row_of (rows_in S.Store store.old) session.now) }
+    ensures same { AreSure S.Store → IsReady S.Store store.old
+        → rows_in S.Store store.new ≡ rows_in S.Store store.old }
+    ensures found { AreSure S.Store → IsReady S.Store store.old
+        → IfOk result (λ row. row ≡ row_of (rows_in S.Store store.old) session.now) }
+    ensures said { AreSure S.Store → IsReady S.Store store.old
+        → IfOk result (SaysRow S.Store store.old session.now) }
     ensures kept { IfOk result (λ row. IfSome row IsRow) }
+    ensures no_store { store.old ≡ None → result ≡ Err IoFault.Failed }
 {
     match store {
         Some(store) => fetch(store, alloc, session),
@@ -124,11 +156,17 @@ fn save_in<S: Alter>(
 ) -> Result<(), IoFault>
     requires { IsRow row.now }
     ensures ready { AreSure S.Store → IsReady S.Store store.old → IsReady S.Store store.new }
-    ensures same { AreSure S.Store → IsReady S.Store store.old → OnErr result (rows_in S.Store store.new ≡ rows_in S.Store store.old) }
-    ensures puts { AreSure S.Store → IsReady S.Store store.old → OnOk result (Puts row.now (Some (rows_in S.Store store.old)) (Some (rows_in S.Store store.new))) }
+    ensures puts { AreSure S.Store → IsReady S.Store store.old → OnOk result
+        (Puts row.now (Some (rows_in S.Store store.old)) (Some (rows_in S.Store store.new))) }
+    ensures same { AreSure S.Store → IsReady S.Store store.old
+        → OnErr result (rows_in S.Store store.new ≡ rows_in S.Store store.old) }
+    ensures no_store { store.old ≡ None → result ≡ Err IoFault.Failed }
 {
     match store {
         Some(store) => save(store, alloc, row),
         None => Err(IoFault::Failed),
     }
 }
+
+#[cfg(test)]
+mod tests;

@@ -1,18 +1,15 @@
 //! Rows as a store keeps them: tokens as 16 bytes, and flags and counts as integers.
 
-ghost use Rattle.std.specs.Prelude.{◌≡◌, ◌≤◌, ◌+◌, Some, pos, if◌then◌else◌, length, option_map, IfOk, IfSome};
+ghost use Rattle.std.specs.Prelude.{◌≡◌, ◌≤◌, Some, pos, if◌then◌else◌, option_map, IfOk, IfSome};
 ghost use Rattle.session_register.specs.Rows.{IsKept, IsOldKept, IsRow, IsToken, greatest, upgraded};
-ghost use Rattle.session_register.specs.Stored.{number_at, read_chain, read_name, read_old_chain, read_old_row, read_opened, read_prev, read_row, read_token};
+ghost use Rattle.session_register.specs.Stored.{read_chain, read_name, read_old_chain, read_old_row, read_opened, read_prev, read_row, read_token};
 
 use crate::name::SessionName;
 use crate::row::{Chain, OldChain, OldRow, Row, upgrade};
-use crate::token::Token;
+use crate::token::{GREATEST_COUNT, Token};
 use chan_values::{Bytes, NoMemory, Text};
 use register_sql::{RawChain, RawOldChain, RawOldRow, RawRow};
 use std::alloc::Global;
-
-/// The greatest count of tokens and openings.
-const MAX_COUNT: u64 = 9_223_372_036_854_775_807;
 
 /// The row that a stored one says, where each of its columns is as it should be.
 pub(crate) fn row_from(raw: &RawRow) -> Option<Row>
@@ -103,26 +100,12 @@ fn token_from(bytes: &Bytes) -> Option<Token>
     ensures value { result ≡ read_token bytes.now }
     ensures kept { IfSome result IsToken }
 {
-    let bytes = bytes.as_slice();
-    if bytes.len() != 16 {
-        return None;
-    }
-    let count = number(bytes, 0);
-    let random = number(bytes, 8);
-    if (1..=MAX_COUNT).contains(&count) {
-        Some(Token { count, random })
+    let token = Token::from_bytes(bytes.as_slice().as_array()?);
+    if (1..=GREATEST_COUNT).contains(&token.count) {
+        Some(token)
     } else {
         None
     }
-}
-
-fn number(bytes: &[u8], at: usize) -> u64
-    requires { at + 8 ≤ length bytes.now }
-    ensures { result ≡ number_at at bytes.now }
-{
-    let mut array = [0; 8];
-    array.copy_from_slice(&bytes[at..at + 8]);
-    u64::from_be_bytes(array)
 }
 
 /// The row as it is stored.
@@ -177,9 +160,6 @@ fn raw_token(alloc: Global, token: &Token) -> Result<Bytes, NoMemory>
     requires { IsToken token.now }
     ensures { IfOk result (λ bytes. read_token bytes ≡ Some token.now) }
 {
-    let count = token.count.to_be_bytes();
-    let random = token.random.to_be_bytes();
-    let mut bytes = Vec::from_slice(alloc, &count)?;
-    bytes.extend_from_slice(&random)?;
-    Ok(Bytes::new(bytes))
+    let bytes = token.to_bytes();
+    Ok(Bytes::new(Vec::from_slice(alloc, &bytes)?))
 }
