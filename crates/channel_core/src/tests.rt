@@ -1,14 +1,17 @@
 ghost use Rattle.std.specs.Prelude.{◌<◌, ◌≤◌, ◌^◌, IfOk, length};
+ghost use Rattle.chan_values.specs.Limits.{max_payload};
 ghost use Rattle.channel_core.specs.Condition.{IsNumbered};
 
-use crate::{End, Heard, Incoming, Outgoing, Pull, Put, Tick};
-use chan_values::{Bytes, Item, Side};
+use crate::{End, Heard, Incoming, Look, Outgoing, Pull, Put, Tick};
+use chan_values::{Bytes, Item, Side, Text};
 use std::alloc::Global;
 use std::test::Fail;
 
+const ID: [u8; 16] = *b"an id of letters";
+
 /// An item of one byte.
 fn item(alloc: Global, byte: u8) -> Result<Item, Fail>
-    ensures { IfOk result (λ item. length item.payload ≤ 65536) }
+    ensures { IfOk result (λ item. length item.payload ≤ max_payload) }
 {
     Ok(Item {
         ptype: 1,
@@ -23,9 +26,26 @@ fn message(alloc: Global, seq: u64, byte: u8) -> Result<Incoming, Fail>
 {
     Ok(Incoming::Stream {
         seq,
-        id: [0; 16],
+        id: ID,
         item: item(alloc, byte)?,
     })
+}
+
+/// Whether this is an item of that byte.
+fn is_item(item: &Item, byte: u8) -> bool {
+    item.ptype == 1 && item.payload.as_slice() == [byte].as_slice()
+}
+
+/// Whether items of these bytes are released, in this order.
+fn releases(heard: &Heard, bytes: &[u8]) -> bool {
+    let Heard::Released(items) = heard else {
+        return false;
+    };
+    let mut same = items.as_slice().len() == bytes.len();
+    for (item, byte) in items.as_slice().iter().zip(bytes) {
+        same = same && is_item(item, *byte);
+    }
+    same
 }
 
 /// The number of a stream message that is pulled.
@@ -45,15 +65,102 @@ fn ack_number(pull: &Pull) -> Option<u64> {
 }
 
 #[test]
+fn a_put_is_numbered_or_handed_back(rt: HostRuntime) -> Result<(), Fail> {
+    let alloc = rt.alloc();
+    let mut plugin = End::new(alloc, Side::Plugin, 2).expect(&rt, "there is memory");
+    let first = plugin.put(item(alloc, b'a')?, ID, 0);
+    assert!(rt; matches!(first, Put::Seq(0)), "the first number is 0");
+    let second = plugin.put(item(alloc, b'b')?, ID, 0);
+    assert!(rt; matches!(second, Put::Seq(1)), "the next is 1");
+    match plugin.put(item(alloc, b'c')?, ID, 0) {
+        Put::Full(item) => assert!(rt; is_item(&item, b'c'), "the item comes back"),
+        _ => panic!(rt; "the window has two messages"),
+    }
+    plugin.close();
+    match plugin.put(item(alloc, b'd')?, ID, 0) {
+        Put::Closed(item) => assert!(rt; is_item(&item, b'd'), "the item comes back"),
+        _ => panic!(rt; "the end is closed"),
+    }
+    let look = Look {
+        next: 2,
+        low: 0,
+        expected: 0,
+        room: 0,
+        closed: true,
+    };
+    assert_eq!(rt; plugin.look(), look);
+    Ok(())
+}
+
+#[test]
+fn a_pull_gives_acknowledgements_and_then_messages(rt: HostRuntime) -> Result<(), Fail> {
+    let alloc = rt.alloc();
+    let mut plugin = End::new(alloc, Side::Plugin, 2).expect(&rt, "there is memory");
+    let _put = plugin.put(item(alloc, b'a')?, ID, 0);
+    assert!(rt; matches!(plugin.pull(0), Pull::Idle), "it is not connected");
+    plugin.opened(0);
+    let _heard = plugin.heard(0, message(alloc, 0, b'b')?);
+    match plugin.pull(7) {
+        Pull::Emit(Outgoing::Ack { seq, id, date }) => {
+            assert_eq!(rt; (seq, date), (0, 7));
+            assert!(rt; id == ID, "the id of what was heard");
+        }
+        _ => panic!(rt; "an acknowledgement goes first"),
+    }
+    match plugin.pull(8) {
+        Pull::Emit(Outgoing::Stream(sent)) => {
+            assert_eq!(rt; (sent.seq, sent.date), (0, 1), "the put was at 0");
+            assert!(rt; sent.id == ID, "the id of the put");
+            assert!(rt; is_item(&sent.item, b'a'), "the item of the put");
+        }
+        _ => panic!(rt; "the message goes then"),
+    }
+    assert!(rt;
+        matches!(plugin.pull(9), Pull::Idle),
+        "it went on this connection"
+    );
+    Ok(())
+}
+
+#[test]
+fn early_items_are_released_by_number(rt: HostRuntime) -> Result<(), Fail> {
+    let alloc = rt.alloc();
+    let mut agent = End::new(alloc, Side::Agent, 3).expect(&rt, "there is memory");
+    agent.opened(0);
+    let cases = [
+        (2, b'c', b"".as_slice()),
+        (1, b'b', b"".as_slice()),
+        (0, b'a', b"abc".as_slice()),
+        (3, b'd', b"d".as_slice()),
+    ];
+    for (seq, byte, bytes) in cases {
+        let heard = agent.heard(0, message(alloc, seq, byte)?);
+        assert!(rt; releases(&heard, bytes), "at {seq}");
+    }
+    let late = agent.heard(0, message(alloc, 1, b'b')?);
+    assert!(rt; matches!(late, Heard::Late), "1 was taken");
+    let beyond = agent.heard(0, message(alloc, 7, b'h')?);
+    assert!(rt; matches!(beyond, Heard::Beyond), "4, 5 and 6 are inside");
+    for seq in [2, 1, 0] {
+        assert!(rt; ack_number(&agent.pull(0)) == Some(seq), "{seq} is owed");
+    }
+    assert!(rt;
+        matches!(agent.pull(0), Pull::Idle),
+        "7 is not owed, and 3 found no room"
+    );
+    Ok(())
+}
+
+#[test]
 fn a_late_message_is_not_owed_where_the_list_is_full(rt: HostRuntime) -> Result<(), Fail> {
     let alloc = rt.alloc();
     let mut agent = End::new(alloc, Side::Agent, 1).expect(&rt, "there is memory");
     agent.opened(0);
     let first = agent.heard(0, message(alloc, 0, b'a')?);
-    assert!(rt; matches!(first, Heard::Released(_)), "0 is in order");
+    assert!(rt; releases(&first, b"a"), "0 is in order");
     assert!(rt; ack_number(&agent.pull(0)) == Some(0), "0 is acknowledged");
     let second = agent.heard(0, message(alloc, 1, b'b')?);
-    assert!(rt; matches!(second, Heard::Released(_)), "1 is in order");
+    assert!(rt; releases(&second, b"b"), "1 is in order");
     let again = agent.heard(0, message(alloc, 0, b'a')?);
     assert!(rt; matches!(again, Heard::Late), "0 was taken");
     assert!(rt; ack_number(&agent.pull(0)) == Some(1), "1 is acknowledged");
@@ -66,10 +173,10 @@ fn a_pause_holds_stream_messages_back(rt: HostRuntime) -> Result<(), Fail> {
     let alloc = rt.alloc();
     let mut plugin = End::new(alloc, Side::Plugin, 10_000).expect(&rt, "there is memory");
     plugin.opened(0);
-    let put = plugin.put(item(alloc, b'a')?, [0; 16], 0);
+    let put = plugin.put(item(alloc, b'a')?, ID, 0);
     assert!(rt; matches!(put, Put::Seq(0)), "the first number is 0");
     let heard = plugin.heard(0, message(alloc, 0, b'b')?);
-    assert!(rt; matches!(heard, Heard::Released(_)), "0 is in order");
+    assert!(rt; releases(&heard, b"b"), "0 is in order");
     let paused = plugin.heard(0, Incoming::Pause);
     assert!(rt; matches!(paused, Heard::Paused), "it is paused");
     assert!(rt; ack_number(&plugin.pull(0)) == Some(0), "0 is acknowledged");
@@ -87,11 +194,83 @@ fn a_pause_holds_stream_messages_back(rt: HostRuntime) -> Result<(), Fail> {
 }
 
 #[test]
+fn a_closing_with_a_text_ends_an_end(rt: HostRuntime) -> Result<(), Fail> {
+    let alloc = rt.alloc();
+    let mut plugin = End::new(alloc, Side::Plugin, 2).expect(&rt, "there is memory");
+    plugin.opened(0);
+    let _put = plugin.put(item(alloc, b'a')?, ID, 0);
+    let output = Text::new(String::from_str(alloc, "bye")?);
+    let ended = plugin.heard(0, Incoming::Closing { output });
+    assert!(rt; matches!(ended, Heard::Ended), "it has ended");
+    let after = plugin.heard(0, message(alloc, 0, b'b')?);
+    assert!(rt; matches!(after, Heard::AfterClose), "nothing is heard then");
+    assert!(rt;
+        matches!(plugin.pull(0), Pull::Idle),
+        "nothing goes out then"
+    );
+    assert!(rt; plugin.tick(1000) == Tick::Nothing, "no timer expires then");
+    assert!(rt; plugin.look().expected == 0, "nothing was taken");
+    Ok(())
+}
+
+#[test]
+fn a_timer_runs_from_the_transmission_after_a_reopening(rt: HostRuntime) -> Result<(), Fail> {
+    let alloc = rt.alloc();
+    let mut plugin = End::new(alloc, Side::Plugin, 2).expect(&rt, "there is memory");
+    plugin.opened(0);
+    let _put = plugin.put(item(alloc, b'a')?, ID, 0);
+    assert!(rt; stream_number(&plugin.pull(0)) == Some(0), "it goes out");
+    plugin.lost();
+    assert!(rt; plugin.tick(5000) == Tick::Nothing, "it is not connected");
+    plugin.opened(5000);
+    assert!(rt;
+        plugin.tick(6000) == Tick::Nothing,
+        "it was not sent on this connection"
+    );
+    assert!(rt;
+        stream_number(&plugin.pull(6000)) == Some(0),
+        "it goes out again"
+    );
+    assert!(rt; plugin.tick(6200) == Tick::Nothing, "200 ms is not past");
+    assert!(rt; plugin.tick(6201) == Tick::Due(0), "it is past");
+    assert!(rt; plugin.tick(9000) == Tick::Nothing, "it is marked");
+    Ok(())
+}
+
+#[test]
+fn an_acknowledgement_counts_after_a_reopening(rt: HostRuntime) -> Result<(), Fail> {
+    let alloc = rt.alloc();
+    let mut plugin = End::new(alloc, Side::Plugin, 2).expect(&rt, "there is memory");
+    plugin.opened(0);
+    let _first = plugin.put(item(alloc, b'a')?, ID, 0);
+    let _second = plugin.put(item(alloc, b'b')?, ID, 0);
+    assert!(rt; stream_number(&plugin.pull(0)) == Some(0), "0 goes out");
+    plugin.lost();
+    plugin.opened(100);
+    let acked = plugin.heard(150, Incoming::Ack { seq: 0 });
+    assert!(rt; matches!(acked, Heard::Acked(0)), "0 was sent before");
+    let again = plugin.heard(150, Incoming::Ack { seq: 0 });
+    assert!(rt; matches!(again, Heard::UnknownAck(0)), "0 is acknowledged");
+    let unsent = plugin.heard(150, Incoming::Ack { seq: 1 });
+    assert!(rt; matches!(unsent, Heard::UnknownAck(1)), "1 was never sent");
+    assert!(rt; stream_number(&plugin.pull(200)) == Some(1), "1 goes out");
+    assert!(rt;
+        matches!(plugin.pull(200), Pull::Idle),
+        "0 does not go again"
+    );
+
+    // The sample 150: 850 / 8 is 106, and the deviation is 50.
+    assert!(rt; plugin.tick(356) == Tick::Nothing, "156 ms is not past");
+    assert!(rt; plugin.tick(357) == Tick::Due(1), "it is past");
+    Ok(())
+}
+
+#[test]
 fn an_end_gives_up_after_three_thousand_resends(rt: HostRuntime) -> Result<(), Fail> {
     let alloc = rt.alloc();
     let mut plugin = End::new(alloc, Side::Plugin, 10_000).expect(&rt, "there is memory");
     plugin.opened(0);
-    let _put = plugin.put(item(alloc, b'a')?, [0; 16], 0);
+    let _put = plugin.put(item(alloc, b'a')?, ID, 0);
     assert!(rt; stream_number(&plugin.pull(0)) == Some(0), "it goes out");
     assert!(rt; plugin.tick(200) == Tick::Nothing, "200 ms is not past");
     for round in 1..3001u64 {
@@ -103,7 +282,7 @@ fn an_end_gives_up_after_three_thousand_resends(rt: HostRuntime) -> Result<(), F
         );
     }
     assert!(rt; plugin.tick(603_201) == Tick::GaveUp(0), "it gives up");
-    let put = plugin.put(item(alloc, b'a')?, [0; 16], 603_201);
+    let put = plugin.put(item(alloc, b'a')?, ID, 603_201);
     assert!(rt; matches!(put, Put::Closed(_)), "it is closed");
     Ok(())
 }

@@ -1,9 +1,10 @@
-ghost use Rattle.std.specs.Prelude.{◌≤◌, length};
+ghost use Rattle.std.specs.Prelude.{◌≡◌, IfOk};
 
 use crate::wire::{InRefusal, incoming, outgoing};
 use crate::{Incoming, Outgoing};
 use agent_message::{Message, Name, encode};
 use chan_values::{Bytes, Item, NoMemory, Side};
+use json_bodies::{BodyFault, Member};
 use resend_queue::Sent;
 use std::alloc::Global;
 use std::test::Fail;
@@ -19,47 +20,115 @@ const FIRST: [u8; 123] = *b"\x00\x00\x00\x74input_stream_data               \
 
 const ID: [u8; 16] = [0, 0, 0, 0, 0, 0, 0, 0, 0, 0, 0, 0, 0, 0, 0, 1];
 
-/// The body of an acknowledgement of it.
-const ACK: &str = "{\"AcknowledgedMessageId\":\"00000000-0000-0000-0000-000000000001\",\
-    \"AcknowledgedMessageSequenceNumber\":0,\
-    \"AcknowledgedMessageType\":\"input_stream_data\",\"IsSequentialMessage\":true}";
+/// A message of an agent: output_stream_data, number 1, the id below, "hi" as Output, date 7.
+/// Its SHA-256 is that of Python's hashlib.
+const SECOND: [u8; 122] = *b"\x00\x00\x00\x74output_stream_data              \
+    \x00\x00\x00\x01\x00\x00\x00\x00\x00\x00\x00\x07\x00\x00\x00\x00\x00\x00\x00\x01\
+    \x00\x00\x00\x00\x00\x00\x00\x00\xfe\xdc\xba\x98\x76\x54\x32\x10\xab\xcd\xef\x01\x23\x45\x67\x89\
+    \x8f\x43\x43\x46\x64\x8f\x6b\x96\xdf\x89\xdd\xa9\x01\xc5\x17\x6b\
+    \x10\xa6\xd8\x39\x61\xdd\x3c\x1a\xc8\x8b\x59\xb2\xdc\x32\x7a\xa4\
+    \x00\x00\x00\x01\x00\x00\x00\x02hi";
 
-/// The same with another number.
-const NEGATIVE: &str = "{\"AcknowledgedMessageId\":\"00000000-0000-0000-0000-000000000001\",\
-    \"AcknowledgedMessageSequenceNumber\":-1,\
-    \"AcknowledgedMessageType\":\"input_stream_data\",\"IsSequentialMessage\":true}";
+const LETTERS: [u8; 16] = *b"\xab\xcd\xef\x01\x23\x45\x67\x89\xfe\xdc\xba\x98\x76\x54\x32\x10";
+
+/// The acknowledgement of its like with the number 5, by a plugin at 9: what stands before the body,
+/// whose SHA-256 is that of Python's hashlib, and the body.
+const ACK_HEAD: [u8; 120] = *b"\x00\x00\x00\x74acknowledge                     \
+    \x00\x00\x00\x01\x00\x00\x00\x00\x00\x00\x00\x09\x00\x00\x00\x00\x00\x00\x00\x00\
+    \x00\x00\x00\x00\x00\x00\x00\x03\xfe\xdc\xba\x98\x76\x54\x32\x10\xab\xcd\xef\x01\x23\x45\x67\x89\
+    \x0f\xb6\x33\x9c\xfd\x87\x7a\x94\x36\x6d\xd9\x05\x94\x66\x9e\x51\
+    \x54\xd3\x4e\xd3\x00\xd5\x57\x35\x4e\xd4\x84\x6d\xc7\x24\x9a\x4e\
+    \x00\x00\x00\x00\x00\x00\x00\xb0";
+
+const ACK_BODY: &str = "{\"AcknowledgedMessageId\":\"abcdef01-2345-6789-fedc-ba9876543210\",\
+    \"AcknowledgedMessageSequenceNumber\":5,\
+    \"AcknowledgedMessageType\":\"output_stream_data\",\"IsSequentialMessage\":true}";
+
+/// What a body of an acknowledgement has before the number, and behind it.
+const ACK_FRONT: &str = "{\"AcknowledgedMessageId\":\"00000000-0000-0000-0000-000000000001\",\
+    \"AcknowledgedMessageSequenceNumber\":";
+
+const ACK_BACK: &str = ",\"AcknowledgedMessageType\":\"\",\"IsSequentialMessage\":true}";
 
 const CLOSED: &str = "{\"CreatedDate\":\"1\",\"DestinationId\":\"\",\
     \"MessageId\":\"00000000-0000-0000-0000-000000000009\",\"MessageType\":\"channel_closed\",\
     \"Output\":\"bye\",\"SchemaVersion\":1,\"SessionId\":\"s-1\"}";
 
 #[test]
-fn the_first_message_goes_out(rt: HostRuntime) -> Result<(), Fail> {
-    let payload = Bytes::new(b"abc".to_vec(rt.alloc())?);
-    let sent = Sent {
+fn a_message_of_each_side_goes_out(rt: HostRuntime) -> Result<(), Fail> {
+    let first = Sent {
         seq: 0,
         id: ID,
         date: 1,
-        item: Item { ptype: 1, payload },
+        item: item(rt.alloc(), b"abc")?,
     };
-    let bytes = outgoing(rt.alloc(), Side::Plugin, &Outgoing::Stream(sent))?;
+    let bytes = outgoing(rt.alloc(), Side::Plugin, &Outgoing::Stream(first))?;
     assert_eq!(rt; bytes.as_slice(), FIRST.as_slice());
+    let second = Sent {
+        seq: 1,
+        id: LETTERS,
+        date: 7,
+        item: item(rt.alloc(), b"hi")?,
+    };
+    let bytes = outgoing(rt.alloc(), Side::Agent, &Outgoing::Stream(second))?;
+    assert_eq!(rt; bytes.as_slice(), SECOND.as_slice());
     Ok(())
 }
 
 #[test]
-fn the_first_message_goes_to_the_agent(rt: HostRuntime) -> Result<(), Fail> {
-    match incoming(rt.alloc(), Side::Agent, &FIRST) {
-        Ok(Incoming::Stream { seq, id, item }) => {
-            assert_eq!(rt; seq, 0);
-            assert_eq!(rt; id, ID);
-            assert_eq!(rt; item.ptype, 1);
-            assert_eq!(rt; item.payload.as_slice(), b"abc".as_slice());
-        }
-        _ => panic!(rt; "it is a stream message"),
+fn an_acknowledgement_has_its_id_in_lower_case(rt: HostRuntime) -> Result<(), Fail> {
+    let out = Outgoing::Ack {
+        seq: 5,
+        id: LETTERS,
+        date: 9,
+    };
+    let bytes = outgoing(rt.alloc(), Side::Plugin, &out)?;
+    let head = bytes.as_slice().get(..120).ok_or("too short")?;
+    assert_eq!(rt; head, ACK_HEAD.as_slice());
+    let body = bytes.as_slice().get(120..).ok_or("too short")?;
+    assert_eq!(rt; body, ACK_BODY.as_bytes());
+    match incoming(rt.alloc(), Side::Agent, bytes.as_slice()) {
+        Ok(Incoming::Ack { seq }) => assert_eq!(rt; seq, 5),
+        _ => panic!(rt; "it is an acknowledgement"),
     }
+    Ok(())
+}
+
+#[test]
+fn a_message_goes_to_the_other_side_alone(rt: HostRuntime) -> Result<(), Fail> {
+    let cases = [
+        (Side::Agent, FIRST.as_slice(), 0, ID, b"abc".as_slice()),
+        (
+            Side::Plugin,
+            SECOND.as_slice(),
+            1,
+            LETTERS,
+            b"hi".as_slice(),
+        ),
+    ];
+    for (side, bytes, number, of, payload) in cases {
+        match incoming(rt.alloc(), side, bytes) {
+            Ok(Incoming::Stream { seq, id, item }) => {
+                assert_eq!(rt; seq, number);
+                assert_eq!(rt; id, of);
+                assert_eq!(rt; item.ptype, 1);
+                assert_eq!(rt; item.payload.as_slice(), payload);
+            }
+            _ => panic!(rt; "it is a stream message"),
+        }
+    }
+    let refused = incoming(rt.alloc(), Side::Plugin, &FIRST);
     let refusal = InRefusal::Wrong(Name::input_stream_data());
-    assert!(rt; incoming(rt.alloc(), Side::Plugin, &FIRST).err() == Some(refusal));
+    assert!(rt;
+        refused.err() == Some(refusal),
+        "it is a message of the plugin"
+    );
+    let refused = incoming(rt.alloc(), Side::Agent, &SECOND);
+    let refusal = InRefusal::Wrong(Name::output_stream_data());
+    assert!(rt;
+        refused.err() == Some(refusal),
+        "it is a message of the agent"
+    );
     Ok(())
 }
 
@@ -74,23 +143,6 @@ fn a_hurt_payload_is_refused(rt: HostRuntime) {
 }
 
 #[test]
-fn an_acknowledgement_is_read_back(rt: HostRuntime) -> Result<(), Fail> {
-    let out = Outgoing::Ack {
-        seq: 0,
-        id: ID,
-        date: 1,
-    };
-    let bytes = outgoing(rt.alloc(), Side::Agent, &out)?;
-    let body = bytes.as_slice().get(120..).ok_or("too short")?;
-    assert_eq!(rt; body, ACK.as_bytes());
-    match incoming(rt.alloc(), Side::Plugin, bytes.as_slice()) {
-        Ok(Incoming::Ack { seq }) => assert_eq!(rt; seq, 0),
-        _ => panic!(rt; "it is an acknowledgement"),
-    }
-    Ok(())
-}
-
-#[test]
 fn each_name_is_heard_in_its_way(rt: HostRuntime) -> Result<(), Fail> {
     let paused = heard(rt.alloc(), Name::pause_publication(), 0, "x")?;
     assert!(rt; matches!(paused, Ok(Incoming::Pause)));
@@ -100,24 +152,101 @@ fn each_name_is_heard_in_its_way(rt: HostRuntime) -> Result<(), Fail> {
         Ok(Incoming::Closing { output }) => assert_eq!(rt; output.as_str(), "bye"),
         _ => panic!(rt; "it is a closing"),
     }
-    let refused = heard(rt.alloc(), Name::acknowledge(), 0, NEGATIVE)?;
-    assert!(rt; refused.err() == Some(InRefusal::Negative(-1)));
     let refused = heard(rt.alloc(), Name::output_stream_data(), -2, "x")?;
     assert!(rt; refused.err() == Some(InRefusal::Negative(-2)));
-    let refused = heard(rt.alloc(), Name::acknowledge(), 0, "{}")?;
-    assert!(rt; matches!(refused, Err(InRefusal::Body(_))));
     Ok(())
 }
 
-// What a plugin hears of a message.
+#[test]
+fn each_fault_of_a_closing_is_told(rt: HostRuntime) -> Result<(), Fail> {
+    let name = Name::channel_closed();
+    for (body, fault) in [("{", BodyFault::NotJson), ("[]", BodyFault::NotObject)] {
+        let refused = heard(rt.alloc(), name, 0, body)?;
+        assert!(rt; refused.err() == Some(InRefusal::Body(fault)), "of {body}");
+    }
+
+    // Each member behind those before it in the table: not there, of another kind, and right.
+    let members = [
+        (Member::CreatedDate, "\"CreatedDate\":", "1", "\"1\""),
+        (Member::DestinationId, ",\"DestinationId\":", "null", "\"\""),
+        (Member::MessageId, ",\"MessageId\":", "[]", "\"\""),
+        (Member::MessageType, ",\"MessageType\":", "{}", "\"\""),
+        (Member::Output, ",\"Output\":", "true", "\"\""),
+        (Member::SchemaVersion, ",\"SchemaVersion\":", "\"1\"", "1"),
+        (Member::SessionId, ",\"SessionId\":", "1.5", "\"\""),
+    ];
+    let mut front = String::from_str(rt.alloc(), "{")?;
+    for (member, key, wrong, right) in members {
+        let missing = format!(in rt.alloc(); "{front}}}")?;
+        let refused = heard(rt.alloc(), name, 0, missing.as_str())?;
+        let fault = InRefusal::Body(BodyFault::Missing(member));
+        assert!(rt; refused.err() == Some(fault), "without {key}");
+        let other = format!(in rt.alloc(); "{front}{key}{wrong}}}")?;
+        let refused = heard(rt.alloc(), name, 0, other.as_str())?;
+        let fault = InRefusal::Body(BodyFault::Kind(member));
+        assert!(rt; refused.err() == Some(fault), "{wrong} for {key}");
+        front.push_str(key)?;
+        front.push_str(right)?;
+    }
+    for version in ["-1", "4294967296"] {
+        let body = format!(in rt.alloc(); "{front},\"SchemaVersion\":{version}}}")?;
+        let refused = heard(rt.alloc(), name, 0, body.as_str())?;
+        let fault = InRefusal::Body(BodyFault::Range(Member::SchemaVersion));
+        assert!(rt; refused.err() == Some(fault), "the last {version} counts");
+    }
+    Ok(())
+}
+
+#[test]
+fn the_number_of_an_acknowledgement_has_63_bits(rt: HostRuntime) -> Result<(), Fail> {
+    let range = InRefusal::Body(BodyFault::Range(Member::AcknowledgedMessageSequenceNumber));
+    let kind = InRefusal::Body(BodyFault::Kind(Member::AcknowledgedMessageSequenceNumber));
+    let cases = [
+        ("9223372036854775808", range),
+        ("-1", InRefusal::Negative(-1)),
+        ("-9223372036854775808", InRefusal::Negative(i64::MIN)),
+        ("1.0", kind),
+    ];
+    let name = Name::acknowledge();
+    for (number, refusal) in cases {
+        let body = format!(in rt.alloc(); "{ACK_FRONT}{number}{ACK_BACK}")?;
+        let refused = heard(rt.alloc(), name, 0, body.as_str())?;
+        assert!(rt; refused.err() == Some(refusal), "at {number}");
+    }
+    let body = format!(in rt.alloc(); "{ACK_FRONT}9223372036854775807{ACK_BACK}")?;
+    match heard(rt.alloc(), name, -5, body.as_str())? {
+        Ok(Incoming::Ack { seq }) => assert_eq!(rt; seq, 9_223_372_036_854_775_807),
+        _ => panic!(rt; "its own number is not looked at"),
+    }
+    let refused = heard(rt.alloc(), name, 0, "{}")?;
+    let missing = BodyFault::Missing(Member::AcknowledgedMessageId);
+    assert!(rt;
+        refused.err() == Some(InRefusal::Body(missing)),
+        "the id is not there"
+    );
+    Ok(())
+}
+
+/// An item of type 1.
+fn item(alloc: Global, payload: &[u8]) -> Result<Item, NoMemory>
+    ensures { IfOk result (λ item. item.payload ≡ payload.now) }
+{
+    Ok(Item {
+        ptype: 1,
+        payload: Bytes::new(payload.to_vec(alloc)?),
+    })
+}
+
+/// What a plugin hears of a message.
 fn heard(
     alloc: Global,
     name: Name,
     seq: i64,
     payload: &str,
-) -> Result<Result<Incoming, InRefusal>, NoMemory>
-    requires { length payload.now ≤ 65536 }
-{
+) -> Result<Result<Incoming, InRefusal>, Fail> {
+    if payload.len() > 65_536 {
+        return Err("too long")?;
+    }
     let message = Message {
         name,
         schema: 1,
