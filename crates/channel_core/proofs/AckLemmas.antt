@@ -24,8 +24,7 @@ use Rattle.channel_core.proofs.NumberLemmas.{least_absent-grows, least_absent-is
 use Rattle.channel_core.proofs.PendingLemmas.{Sending, kept_all, kept_all-acked, kept_at, message_of}
 use Rattle.channel_core.proofs.SearchLemmas.{find_number, first_number-kept, message_there}
 use Rattle.channel_core.proofs.SendingLemmas.{IsOrderly, due_count-above, due_count-push, low-le, orderly, sending, sending_after}
-use Rattle.channel_core.proofs.StandingLemmas.{Goes, goes, nothing_goes, or-false, queue_after-is, queue_of, sending-acked}
-use Rattle.channel_core.proofs.StillLemmas.{unknown_still}
+use Rattle.channel_core.proofs.StandingLemmas.{Goes, goes, nothing_goes, or-false, queue_after-is, queue_of, sending-acked, still}
 
 -- a number waits for its acknowledgement
 abbrev waits : List Entry → ℕ → Bool
@@ -97,7 +96,7 @@ unknown_goes w h now n old new legal s unclosed none is =
     (EndAnswer.Heard (Heard.UnknownAck n)) legal s is
     (inl (ap (λ (a : Heard). EndAnswer.Heard a)
     (sym (ack_unknown w h n (sym s.closed ∙ unclosed) absent))))
-    (unknown_still h now n) (λ l. refl) (λ b. refl) (λ b. refl) refl
+    (search still) (λ l. refl) (λ b. refl) (λ b. refl) refl
   where
     at : (b : Bool) → None ≡ cond b (Some (last_moment (transmissions h) n)) None → b ≡ false
     at true is = cc

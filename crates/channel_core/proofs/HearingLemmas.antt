@@ -12,12 +12,12 @@ use Rattle.channel_core.specs.Legal.{IsLegal, answer_to_heard, answer_to_incomin
 use Rattle.channel_core.specs.Numbers.{has_number, numbers_of}
 use Rattle.channel_core.specs.Stands.{EndState, Stands}
 use Rattle.channel_core.proofs.EarlyLemmas.{early_known}
-use Rattle.channel_core.proofs.StandingLemmas.{Goes, nothing_goes, or-false, still_goes}
+use Rattle.channel_core.proofs.StandingLemmas.{Goes, nothing_goes, or-false, still_goes, still}
 use Rattle.std.specs.Option.{is_some}
 use Rattle.std.proofs.lemmas.Bool.{le-leb, lt-leb}
 use Rattle.receive_window.specs.Window.{is_taken, item_with}
 use Rattle.channel_core.specs.Legal.{answer_to_stream, items_released_by}
-use Rattle.channel_core.proofs.StillLemmas.{after_close_still, beyond_still, ended_still, heard_nomemory_still, late_still, or-true, paused_still, started_still}
+use Rattle.channel_core.proofs.OpenedLemmas.{or-true}
 
 -- a message that is heard
 abbrev pub stream_call : ℕ → ℕ → List ℕ → Item → EndCall
@@ -90,7 +90,7 @@ late_goes w h now n id item old new legal s unclosed taken is =
     (inl (ap (λ (a : Heard). EndAnswer.Heard a)
     (sym (open_heard w h (Incoming.Stream n id item) (sym s.closed ∙ unclosed)
     ∙ late_is w h n item known))))
-    (late_still h now n id item)
+    (search still)
     (rw is refl) (rw is refl) (rw is refl)
     (rw is (ap (λ (k : ℕ). owed_with k old.owed n id) s.window)) (rw is refl) (rw is refl)
     (rw is (sym (or-false old.closed)))
@@ -110,7 +110,7 @@ beyond_goes w h now n id item old new legal s unclosed untaken far is =
     (inl (ap (λ (a : Heard). EndAnswer.Heard a)
     (sym (open_heard w h (Incoming.Stream n id item) (sym s.closed ∙ unclosed)
     ∙ beyond_is w h n item new_number beyond))))
-    (beyond_still h now n id item) (λ l. refl) (λ b. refl) (λ b. refl) refl
+    (search still) (λ l. refl) (λ b. refl) (λ b. refl) refl
 
 pub heard_none_goes : (w : ℕ) (h : List Entry) (now : ℕ) (incoming : Incoming) (old new : EndState)
     → IsLegal w h
@@ -120,7 +120,7 @@ pub heard_none_goes : (w : ℕ) (h : List Entry) (now : ℕ) (incoming : Incomin
 heard_none_goes w h now incoming old new legal s is =
     nothing_goes w h old new (EndCall.Heard now incoming)
     (EndAnswer.Heard (Heard.NoMemory incoming)) legal s is (inr refl)
-    (heard_nomemory_still h now incoming) (λ l. refl) (λ b. refl) (λ b. refl) refl
+    (search still) (λ l. refl) (λ b. refl) (λ b. refl) refl
 
 pub after_close_goes : (w : ℕ) (h : List Entry) (now : ℕ) (incoming : Incoming) (old new : EndState)
     → IsLegal w h
@@ -132,7 +132,7 @@ after_close_goes w h now incoming old new legal s closed is =
     let given : answer_to_heard w h incoming ≡ Heard.AfterClose = rw (sym s.closed ∙ closed) refl in
     nothing_goes w h old new (EndCall.Heard now incoming)
     (EndAnswer.Heard Heard.AfterClose) legal s is
-    (inl (ap (λ (a : Heard). EndAnswer.Heard a) (sym given))) (after_close_still h now incoming)
+    (inl (ap (λ (a : Heard). EndAnswer.Heard a) (sym given))) (search still)
     (λ l. refl) (λ b. refl) (λ b. refl) refl
 
 pub pause_goes : (w : ℕ) (h : List Entry) (now : ℕ) (old new : EndState)
@@ -144,7 +144,7 @@ pub pause_goes : (w : ℕ) (h : List Entry) (now : ℕ) (old new : EndState)
 pause_goes w h now old new legal s unclosed is =
     still_goes w h old new (EndCall.Heard now Incoming.Pause) (EndAnswer.Heard Heard.Paused) legal s
     (inl (ap (λ (a : Heard). EndAnswer.Heard a)
-    (sym (open_heard w h Incoming.Pause (sym s.closed ∙ unclosed))))) (paused_still h now)
+    (sym (open_heard w h Incoming.Pause (sym s.closed ∙ unclosed))))) (search still)
     (rw is refl) (rw is refl) (rw is refl) (rw is refl) (rw is refl) (rw is refl)
     (rw is (sym (or-false old.closed)))
 
@@ -158,7 +158,7 @@ start_goes w h now old new legal s unclosed is =
     still_goes w h old new (EndCall.Heard now Incoming.Start)
     (EndAnswer.Heard Heard.Started) legal s
     (inl (ap (λ (a : Heard). EndAnswer.Heard a)
-    (sym (open_heard w h Incoming.Start (sym s.closed ∙ unclosed))))) (started_still h now)
+    (sym (open_heard w h Incoming.Start (sym s.closed ∙ unclosed))))) (search still)
     (rw is refl) (rw is refl) (rw is refl) (rw is refl) (rw is refl) (rw is refl)
     (rw is (sym (or-false old.closed)))
 
@@ -173,6 +173,6 @@ closing_goes w h now output old new legal s unclosed is =
     (EndAnswer.Heard Heard.Ended) legal s
     (inl (ap (λ (a : Heard). EndAnswer.Heard a)
     (sym (open_heard w h (Incoming.Closing output) (sym s.closed ∙ unclosed)))))
-    (ended_still h now output)
+    (search still)
     (rw is refl) (rw is refl) (rw is refl) (rw is refl) (rw is refl) (rw is refl)
     (rw is (sym (or-true old.closed)))

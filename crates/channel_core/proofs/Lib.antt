@@ -1,3 +1,4 @@
+mod Examples
 pub mod AckLemmas
 pub mod AgreementLemmas
 pub mod ArrivalLemmas
@@ -5,13 +6,13 @@ pub mod CountLemmas
 pub mod DeliveryLemmas
 pub mod EarlyLemmas
 pub mod EncodableLemmas
-mod Examples
 pub mod ExchangeLemmas
 pub mod HearingLemmas
 pub mod HistoryLemmas
 pub mod ItemLemmas
 pub mod LegalLemmas
 pub mod NumberLemmas
+pub mod OpenedLemmas
 pub mod OwedLemmas
 pub mod PassLemmas
 pub mod PendingLemmas
@@ -25,7 +26,6 @@ pub mod ShortLemmas
 pub mod SinceLemmas
 pub mod SoundLemmas
 pub mod StandingLemmas
-pub mod StillLemmas
 pub mod TickLemmas
 pub mod WireLemmas
 pub mod WorldLemmas

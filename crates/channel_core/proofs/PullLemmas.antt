@@ -20,8 +20,7 @@ use Rattle.channel_core.proofs.NumberLemmas.{least_below-some}
 use Rattle.channel_core.proofs.PendingLemmas.{Sending, kept_all, kept_all-emitted, kept_at, message_of}
 use Rattle.channel_core.proofs.SearchLemmas.{find-least, least_below-agree, message_there, passes_at}
 use Rattle.channel_core.proofs.SendingLemmas.{sending}
-use Rattle.channel_core.proofs.StandingLemmas.{Goes, dues-same, nothing_goes, or-false, queue_after-is, queue_of, sending-emitted, step_goes, still_goes}
-use Rattle.channel_core.proofs.StillLemmas.{emit_ack_still, idle_still, pull_nomemory_still}
+use Rattle.channel_core.proofs.StandingLemmas.{Goes, dues-same, nothing_goes, or-false, queue_after-is, queue_of, sending-emitted, step_goes, still_goes, still}
 
 closed_pull : (w : ℕ) (h : List Entry) (now : ℕ)
     → (is_closed h || not (is_up h)) ≡ true
@@ -45,7 +44,7 @@ pull_down_goes w h now old legal s down =
     nothing_goes w h old old (EndCall.Pull now) (EndAnswer.Pull Pull.Idle) legal s refl
     (inl (ap (λ (p : Pull). EndAnswer.Pull p)
     (sym (closed_pull w h now (rw (← s.closed, ← s.up) down)))))
-    (idle_still h now) (λ l. refl) (λ b. refl) (λ b. refl) refl
+    (search still) (λ l. refl) (λ b. refl) (λ b. refl) refl
 
 -- the first acknowledgement that is owed goes out
 pub pull_ack_goes : (w : ℕ) (h : List Entry) (now : ℕ) (ack : ℕ × List ℕ) (rest : List (ℕ × List ℕ))
@@ -63,7 +62,7 @@ pull_ack_goes w h now ack rest old new legal s up owed is =
     still_goes w h old new (EndCall.Pull now)
     (EndAnswer.Pull (Pull.Emit (Outgoing.Ack ack.0 ack.1 (max now 1)))) legal s
     (inl (ap (λ (p : Pull). EndAnswer.Pull p) (sym given)))
-    (emit_ack_still h now ack.0 ack.1 (max now 1))
+    (search still)
     (rw is refl) (rw is refl) (rw is refl) (rw is refl) (rw is refl) (rw is refl)
     (rw is (sym (or-false old.closed)))
 
@@ -81,7 +80,7 @@ pull_paused_goes w h now old new legal s is up owed paused =
     = open_pull w h now (rw (← s.closed, ← s.up) up) ∙ ap (emit_next h now) (sym s.owed ∙ owed)
     ∙ rw (sym s.paused ∙ paused) refl in
     nothing_goes w h old new (EndCall.Pull now) (EndAnswer.Pull Pull.Idle) legal s is
-    (inl (ap (λ (p : Pull). EndAnswer.Pull p) (sym given))) (idle_still h now) (λ l. refl)
+    (inl (ap (λ (p : Pull). EndAnswer.Pull p) (sym given))) (search still) (λ l. refl)
     (λ b. refl) (λ b. refl) refl
 
 -- the answer of an end to a pull, where nothing is owed
@@ -211,7 +210,7 @@ pull_out_goes w h now out old new legal s up owed paused answer is =
     (λ (none : out ≡ Out.NoMemory). rw none
     (nothing_goes w h old new (EndCall.Pull now) (EndAnswer.Pull Pull.NoMemory) legal s
     (is ∙ ap (λ (o : Out). record old { queue = after_out old.queue now o }) none)
-    (inr refl) (pull_nomemory_still h now) (λ l. refl) (λ b. refl) (λ b. refl) refl))
+    (inr refl) (search still) (λ l. refl) (λ b. refl) (λ b. refl) refl))
     answer
   where
     by : (o : Out)
@@ -221,7 +220,7 @@ pull_out_goes w h now out old new legal s up owed paused answer is =
     by (Out.Stream sent) is given = emit_goes w h now sent old new legal s is given
     by Out.Idle is given = nothing_goes w h old new (EndCall.Pull now)
         (EndAnswer.Pull Pull.Idle) legal s is (inl (ap (λ (p : Pull). EndAnswer.Pull p) given))
-        (idle_still h now) (λ l. refl) (λ b. refl) (λ b. refl) refl
+        (search still) (λ l. refl) (λ b. refl) (λ b. refl) refl
     by Out.NoMemory is given = nothing_goes w h old new (EndCall.Pull now)
-        (EndAnswer.Pull Pull.NoMemory) legal s is (inr refl) (pull_nomemory_still h now) (λ l. refl)
+        (EndAnswer.Pull Pull.NoMemory) legal s is (inr refl) (search still) (λ l. refl)
         (λ b. refl) (λ b. refl) refl

@@ -17,8 +17,7 @@ use Rattle.channel_core.specs.Stands.{EndState, Stands}
 use Rattle.channel_core.proofs.PendingLemmas.{Sending, kept_all, kept_all-put}
 use Rattle.channel_core.proofs.SearchLemmas.{first_number-kept}
 use Rattle.channel_core.proofs.SendingLemmas.{IsOrderly, low-le, orderly, sending}
-use Rattle.channel_core.proofs.StandingLemmas.{Goes, IsStill, dues-same, nothing_goes, or-false, queue_after-is, queue_of, sending-put, step_goes}
-use Rattle.channel_core.proofs.StillLemmas.{put_closed_still, put_full_still, put_nomemory_still, put_spent_still}
+use Rattle.channel_core.proofs.StandingLemmas.{Goes, IsStill, dues-same, nothing_goes, or-false, queue_after-is, queue_of, sending-put, step_goes, still}
 use Rattle.chan_values.specs.Limits.{max_seq}
 
 -- the answer of an end to a put
@@ -62,7 +61,7 @@ put_closed_goes w h item id now old legal s closed =
     nothing_goes w h old old (EndCall.Put item id now)
     (EndAnswer.Put (Put.Closed item)) legal s refl
     (inl (ap (λ (p : Put). EndAnswer.Put p) (sym (closed_put w h item (sym s.closed ∙ closed)))))
-    (put_closed_still h item item id now) (λ l. refl) (λ b. refl) (λ b. refl) refl
+    (search still) (λ l. refl) (λ b. refl) (λ b. refl) refl
 
 -- an item that got the next number
 seq_goes : (w : ℕ) (h : List Entry) (item : Item) (id : List ℕ) (now : ℕ) (old new : EndState)
@@ -140,7 +139,7 @@ put_goes w h item id now kept old new legal s unclosed answer is =
     (nothing_goes w h old new (EndCall.Put item id now) (EndAnswer.Put (Put.NoMemory item)) legal s
     (is ∙ ap
     (λ (k : Kept). record old { queue = after_put old.queue item id (max now 1) k }) none)
-    (inr refl) (put_nomemory_still h item item id now) (λ l. refl) (λ b. refl) (λ b. refl) refl))
+    (inr refl) (search still) (λ l. refl) (λ b. refl) (λ b. refl) refl))
     answer
   where
     -- a number that is answered is the next one
@@ -186,9 +185,9 @@ put_goes w h item id now kept old new legal s unclosed answer is =
               (Kept.Seq k);
         }) next) (sym (ap (λ (k : ℕ). Put.Seq k) next) ∙ given))
     by (Kept.Spent back) is given same = refused (Put.Spent back) is given
-        (put_spent_still h item back id now) (λ l. refl) (λ b. refl) refl
+        (search still) (λ l. refl) (λ b. refl) refl
     by (Kept.Full back) is given same = refused (Put.Full back) is given
-        (put_full_still h item back id now) (λ l. refl) (λ b. refl) refl
+        (search still) (λ l. refl) (λ b. refl) refl
     by (Kept.NoMemory back) is given same =
-        refused (Put.NoMemory back) is given (put_nomemory_still h item back id now) (λ l. refl)
+        refused (Put.NoMemory back) is given (search still) (λ l. refl)
         (λ b. refl) refl

@@ -1,5 +1,5 @@
 -- What an end keeps, one entry on.
-use Rattle.std.proofs.Common.{◌≡◌, ℕ, ◌+◌, Bool, true, false, cond, ◌||◌, Option, None, List, [], ◌∷◌, ◌++◌, refl, sym, ap, subst, ◌∙◌, arith, length}
+use Rattle.std.proofs.Common.{◌≡◌, ℕ, ◌+◌, Bool, true, false, cond, ◌||◌, Option, None, List, [], ◌∷◌, ◌++◌, refl, sym, ap, subst, ◌∙◌, arith, length, rules}
 use Rattle.std.specs.List.{cons_option}
 use Rattle.std.specs.List.Sorted.{IsPermutation}
 use Rattle.std.proofs.lemmas.List.{append-nil}
@@ -215,6 +215,9 @@ pub record IsStill (h : List Entry) (call : EndCall) (answer : EndAnswer) : Type
   pub taken : item_taken answer call ≡ None
   pub sample : sample_of h answer call ≡ None
   pub due : (n : ℕ) → is_due n answer ≡ false
+
+-- shows that an entry is so
+pub ruleset still = (rules, sending-still)
 
 pub still_goes : (w : ℕ) (h : List Entry) (old new : EndState) (call : EndCall) (answer : EndAnswer)
     → IsLegal w h

@@ -17,8 +17,8 @@ use Rattle.channel_core.specs.Stands.{EndState, Stands}
 use Rattle.channel_core.proofs.PendingLemmas.{Sending, kept_all-marked, message_of}
 use Rattle.channel_core.proofs.SearchLemmas.{first_number-kept, kept_all-first, kept_all-none}
 use Rattle.channel_core.proofs.SendingLemmas.{IsOrderly, due_answered, low-le, orderly, sending, sending_after}
-use Rattle.channel_core.proofs.StandingLemmas.{Goes, dues-same, nothing_goes, or-false, queue_after-is, queue_of, sending-still, step_goes, still_goes}
-use Rattle.channel_core.proofs.StillLemmas.{gave_up_still, look_still, nothing_still, or-true}
+use Rattle.channel_core.proofs.StandingLemmas.{Goes, dues-same, nothing_goes, or-false, queue_after-is, queue_of, sending-still, step_goes, still_goes, still}
+use Rattle.channel_core.proofs.OpenedLemmas.{or-true}
 use Rattle.resend_queue.specs.Queue.{max_dues}
 
 down_tick : (h : List Entry) (now : ℕ)
@@ -36,7 +36,7 @@ tick_down_goes w h now old legal s down =
     nothing_goes w h old old (EndCall.Tick now) (EndAnswer.Tick Tick.Nothing) legal s refl
     (inl (ap (λ (a : Tick). EndAnswer.Tick a)
     (sym (down_tick h now (rw (← s.closed, ← s.up) down)))))
-    (nothing_still h now) (λ l. refl) (λ b. refl) (λ b. refl) refl
+    (search still) (λ l. refl) (λ b. refl) (λ b. refl) refl
 
 -- the answer of an end to a tick
 abbrev pub tick_of : Mark → Tick
@@ -159,12 +159,12 @@ tick_goes w h now mark old new legal s up answer is =
         → Goes w h new (EndCall.Tick now) (EndAnswer.Tick (tick_of k))
     by Mark.Nothing is given =
         nothing_goes w h old new (EndCall.Tick now) (EndAnswer.Tick Tick.Nothing) legal s is
-        (inl (ap (λ (a : Tick). EndAnswer.Tick a) given)) (nothing_still h now) (λ l. refl)
+        (inl (ap (λ (a : Tick). EndAnswer.Tick a) given)) (search still) (λ l. refl)
         (λ b. refl) (λ b. refl) refl
     by (Mark.Due n) is given = due_goes w h now n old new legal s given is
     by (Mark.GaveUp n) is given =
         still_goes w h old new (EndCall.Tick now) (EndAnswer.Tick (Tick.GaveUp n)) legal s
-        (inl (ap (λ (a : Tick). EndAnswer.Tick a) given)) (gave_up_still h now n)
+        (inl (ap (λ (a : Tick). EndAnswer.Tick a) given)) (search still)
         (rw is refl) (rw is refl) (rw is refl) (rw is refl) (rw is refl) (rw is refl)
         (rw is (sym (or-true old.closed)))
 
@@ -203,4 +203,4 @@ pub look_goes : (w : ℕ) (h : List Entry) (look : Look) (old new : EndState)
 look_goes w h look old new legal s is look_is =
     nothing_goes w h old new EndCall.Look (EndAnswer.Look look) legal s is
     (inl (ap (λ (l : Look). EndAnswer.Look l) (look_is ∙ look_at-is w h old legal s)))
-    (look_still h look) (λ l. refl) (λ b. refl) (λ b. refl) refl
+    (search still) (λ l. refl) (λ b. refl) (λ b. refl) refl

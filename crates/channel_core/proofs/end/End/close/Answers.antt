@@ -1,5 +1,5 @@
 use Rattle.std.proofs.Common.{refl}
-use Rattle.channel_core.proofs.StillLemmas.{close_goes}
+use Rattle.channel_core.proofs.OpenedLemmas.{close_goes}
 use Rattle.channel_core.proofs.end.End.close.Goals as goal
 
 pub returns : goal.returns

@@ -1,5 +1,5 @@
 use Rattle.std.proofs.Common.{refl}
-use Rattle.channel_core.proofs.StillLemmas.{lost_goes}
+use Rattle.channel_core.proofs.OpenedLemmas.{lost_goes}
 use Rattle.channel_core.proofs.end.End.lost.Goals as goal
 
 pub returns : goal.returns

@@ -1,5 +1,5 @@
 use Rattle.std.proofs.Common.{refl}
-use Rattle.channel_core.proofs.StillLemmas.{opened_goes}
+use Rattle.channel_core.proofs.OpenedLemmas.{opened_goes}
 use Rattle.channel_core.proofs.end.End.opened.Goals as goal
 
 pub returns : goal.returns
