@@ -24,7 +24,7 @@ use Rattle.channel_core.proofs.NumberLemmas.{least_absent-grows, least_absent-is
 use Rattle.channel_core.proofs.PendingLemmas.{Sending, kept_all, kept_all-acked, kept_at, message_of}
 use Rattle.channel_core.proofs.SearchLemmas.{find_number, first_number-kept, message_there}
 use Rattle.channel_core.proofs.SendingLemmas.{IsOrderly, due_count-above, due_count-push, low-le, orderly, sending, sending_after}
-use Rattle.channel_core.proofs.StandingLemmas.{Goes, goes, nothing_goes, or-false, queue_after-is, queue_of, sending-acked, still}
+use Rattle.channel_core.proofs.StandsLemmas.{Goes, goes, nothing_goes, or-false, queue_after-is, queue_of, sending-acked, still}
 
 -- a number waits for its acknowledgement
 abbrev waits : List Entry → ℕ → Bool

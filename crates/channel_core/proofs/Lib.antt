@@ -7,7 +7,7 @@ pub mod DeliveryLemmas
 pub mod EarlyLemmas
 pub mod EncodableLemmas
 pub mod ExchangeLemmas
-pub mod HearingLemmas
+pub mod HeardLemmas
 pub mod HistoryLemmas
 pub mod ItemLemmas
 pub mod LegalLemmas
@@ -25,7 +25,7 @@ pub mod SendingLemmas
 pub mod ShortLemmas
 pub mod SinceLemmas
 pub mod SoundLemmas
-pub mod StandingLemmas
+pub mod StandsLemmas
 pub mod TickLemmas
 pub mod WireLemmas
 pub mod WorldLemmas

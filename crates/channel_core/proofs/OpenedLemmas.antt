@@ -18,7 +18,7 @@ use Rattle.channel_core.specs.Resending.{due_count}
 use Rattle.channel_core.specs.Stands.{EndState, Stands}
 use Rattle.channel_core.proofs.PendingLemmas.{Sending, kept_all-unsent}
 use Rattle.channel_core.proofs.SendingLemmas.{sending}
-use Rattle.channel_core.proofs.StandingLemmas.{Goes, IsStill, dues-same, or-false, queue_after-is, queue_of, sending-still, step_goes, still_goes, still}
+use Rattle.channel_core.proofs.StandsLemmas.{Goes, IsStill, dues-same, or-false, queue_after-is, queue_of, sending-still, step_goes, still_goes, still}
 
 pub or-true : (b : Bool) → (b || true) ≡ true
 or-true true = refl

@@ -20,7 +20,7 @@ use Rattle.channel_core.proofs.NumberLemmas.{least_below-some}
 use Rattle.channel_core.proofs.PendingLemmas.{Sending, kept_all, kept_all-emitted, kept_at, message_of}
 use Rattle.channel_core.proofs.SearchLemmas.{find-least, least_below-agree, message_there, passes_at}
 use Rattle.channel_core.proofs.SendingLemmas.{sending}
-use Rattle.channel_core.proofs.StandingLemmas.{Goes, dues-same, nothing_goes, or-false, queue_after-is, queue_of, sending-emitted, step_goes, still_goes, still}
+use Rattle.channel_core.proofs.StandsLemmas.{Goes, dues-same, nothing_goes, or-false, queue_after-is, queue_of, sending-emitted, step_goes, still_goes, still}
 
 closed_pull : (w : ℕ) (h : List Entry) (now : ℕ)
     → (is_closed h || not (is_up h)) ≡ true

@@ -17,7 +17,7 @@ use Rattle.channel_core.specs.Stands.{EndState, Stands}
 use Rattle.channel_core.proofs.PendingLemmas.{Sending, kept_all, kept_all-put}
 use Rattle.channel_core.proofs.SearchLemmas.{first_number-kept}
 use Rattle.channel_core.proofs.SendingLemmas.{IsOrderly, low-le, orderly, sending}
-use Rattle.channel_core.proofs.StandingLemmas.{Goes, IsStill, dues-same, nothing_goes, or-false, queue_after-is, queue_of, sending-put, step_goes, still}
+use Rattle.channel_core.proofs.StandsLemmas.{Goes, IsStill, dues-same, nothing_goes, or-false, queue_after-is, queue_of, sending-put, step_goes, still}
 use Rattle.chan_values.specs.Limits.{max_seq}
 
 -- the answer of an end to a put

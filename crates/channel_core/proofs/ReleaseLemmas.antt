@@ -16,7 +16,7 @@ use Rattle.channel_core.specs.Stands.{EndState, Stands}
 use Rattle.channel_core.proofs.NumberLemmas.{least_absent-is, least_absent-unique, has_number-more}
 use Rattle.channel_core.proofs.PendingLemmas.{Sending}
 use Rattle.channel_core.proofs.SendingLemmas.{sending}
-use Rattle.channel_core.proofs.StandingLemmas.{Goes, dues-same, goes, or-false, queue_after-is, queue_of, sending-still}
+use Rattle.channel_core.proofs.StandsLemmas.{Goes, dues-same, goes, or-false, queue_after-is, queue_of, sending-still}
 use Rattle.std.specs.Bool.{IsTrue}
 use Rattle.std.specs.Option.{is_some}
 use Rattle.std.proofs.lemmas.Bool.{or_parts}
@@ -28,7 +28,7 @@ use Rattle.std.proofs.lemmas.List.Quantifiers.{all_pairs_push}
 use Rattle.channel_core.proofs.EarlyLemmas.{early_known, early_of, item_with-early, same_items}
 use Rattle.channel_core.proofs.ItemLemmas.{filter_map-agree, item_with-append, numbers_apart, numbers_of-append}
 use Rattle.channel_core.proofs.SoundLemmas.{sound}
-use Rattle.channel_core.proofs.HearingLemmas.{is_some-item_with, is_taken-is, open_heard, released_is, stream_call}
+use Rattle.channel_core.proofs.HeardLemmas.{is_some-item_with, is_taken-is, open_heard, released_is, stream_call}
 
 -- what is there of the first value, or else of none
 or_else-none : (o : Option Item) → or_else o None ≡ o

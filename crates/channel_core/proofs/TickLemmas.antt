@@ -17,7 +17,7 @@ use Rattle.channel_core.specs.Stands.{EndState, Stands}
 use Rattle.channel_core.proofs.PendingLemmas.{Sending, kept_all-marked, message_of}
 use Rattle.channel_core.proofs.SearchLemmas.{first_number-kept, kept_all-first, kept_all-none}
 use Rattle.channel_core.proofs.SendingLemmas.{IsOrderly, due_answered, low-le, orderly, sending, sending_after}
-use Rattle.channel_core.proofs.StandingLemmas.{Goes, dues-same, nothing_goes, or-false, queue_after-is, queue_of, sending-still, step_goes, still_goes, still}
+use Rattle.channel_core.proofs.StandsLemmas.{Goes, dues-same, nothing_goes, or-false, queue_after-is, queue_of, sending-still, step_goes, still_goes, still}
 use Rattle.channel_core.proofs.OpenedLemmas.{or-true}
 use Rattle.resend_queue.specs.Queue.{max_dues}
 

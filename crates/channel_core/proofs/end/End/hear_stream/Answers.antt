@@ -2,7 +2,7 @@ use Rattle.std.proofs.Common.{◌+◌, refl}
 use Rattle.receive_window.specs.declared.take.Take.TheVariants as Take
 use Rattle.receive_window.specs.Window.{is_taken}
 use Rattle.channel_core.specs.declared.message.Incoming.TheVariants as Incoming
-use Rattle.channel_core.proofs.HearingLemmas.{beyond_goes, heard_none_goes, late_goes}
+use Rattle.channel_core.proofs.HeardLemmas.{beyond_goes, heard_none_goes, late_goes}
 use Rattle.channel_core.proofs.ReleaseLemmas.{beyond-late, inside, released-beyond, released-late, released_goes, untaken}
 use Rattle.channel_core.proofs.end.End.hear_stream.Goals as goal
 

@@ -1,5 +1,5 @@
 use Rattle.std.proofs.Common.{refl}
-use Rattle.channel_core.proofs.HearingLemmas.{after_close_goes, closing_goes, pause_goes, start_goes}
+use Rattle.channel_core.proofs.HeardLemmas.{after_close_goes, closing_goes, pause_goes, start_goes}
 use Rattle.channel_core.proofs.end.End.heard.Goals as goal
 
 pub returns-then-self : goal.returns-then-self

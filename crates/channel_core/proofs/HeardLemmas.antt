@@ -12,7 +12,7 @@ use Rattle.channel_core.specs.Legal.{IsLegal, answer_to_heard, answer_to_incomin
 use Rattle.channel_core.specs.Numbers.{has_number, numbers_of}
 use Rattle.channel_core.specs.Stands.{EndState, Stands}
 use Rattle.channel_core.proofs.EarlyLemmas.{early_known}
-use Rattle.channel_core.proofs.StandingLemmas.{Goes, nothing_goes, or-false, still_goes, still}
+use Rattle.channel_core.proofs.StandsLemmas.{Goes, nothing_goes, or-false, still_goes, still}
 use Rattle.std.specs.Option.{is_some}
 use Rattle.std.proofs.lemmas.Bool.{le-leb, lt-leb}
 use Rattle.receive_window.specs.Window.{is_taken, item_with}
