@@ -5,6 +5,7 @@ use Rattle.std.specs.List.{All, flat_map}
 use Rattle.std.proofs.lemmas.Bool.{cases_lt}
 use Rattle.std.proofs.lemmas.List.{take_at, drop_at, get_or-drop, nil_from_length}
 use Rattle.std.proofs.lemmas.List.Elements.{All-head, All-tail}
+use Rattle.agent_message.specs.CaptureReading.{Pending, StandsFor}
 use Rattle.agent_message.specs.Captures.{HasCause, IsCapture, IsUnfinished, Pieces, ShowsFault, max_message, piece, place_of, said_length}
 use Rattle.agent_message.specs.Decoding.{Decodes}
 use Rattle.agent_message.specs.Layout.{IsEncodable, canonical}
@@ -15,7 +16,7 @@ use Rattle.agent_message.specs.declared.message.Message.{Message}
 use Rattle.agent_message.specs.declared.refusal.Refusal.{Refusal}
 use Rattle.agent_message.proofs.Faults.{one_answer}
 use Rattle.agent_message.proofs.OneAnswer.{an_answer}
-use Rattle.agent_message.proofs.PieceLemmas.{length-piece, said_length-piece, sound_is_short, split_piece}
+use Rattle.agent_message.proofs.PieceLemmas.{Pieces-append, Pieces-join, length-piece, rest_behind, said_length-piece, sound_is_short, split_piece}
 use Rattle.agent_message.proofs.Spelling.{Decodes-canonical, IsBytes, IsBytes-part}
 
 -- ---- what is written is read
@@ -240,3 +241,36 @@ a_reading bytes fits =
         record { rest = r.1; pieces = r.2; ended = (refl, has.1) },
       )
     ]
+
+-- ---- what was given stays
+
+-- what is behind pieces are bytes
+rest_is_bytes : (messages : List Message) (bytes rest : List ℕ) → Pieces messages bytes rest
+    → IsBytes bytes → IsBytes rest
+rest_is_bytes messages bytes rest are fits =
+    let behind = rest_behind messages bytes rest are in
+    subst IsBytes (ap (drop (length behind.0)) behind.1 ∙ drop_at behind.0 rest _ refl)
+    (IsBytes-drop bytes (length behind.0) fits)
+
+-- the messages that were given of the first bytes are the first messages
+pub given_first : (p : Pending) (bytes more : List ℕ) (given messages : List Message)
+    (fault : Option CaptureFault) → IsBytes (bytes ++ more) → StandsFor p bytes given
+    → IsCapture (bytes ++ more) messages fault
+    → (others : List Message) × (messages ≡ given ++ others)
+given_first p bytes more given messages fault fits stands is =
+    let rest = stands.rest ++ more in
+    let front : Pieces given (bytes ++ more) rest =
+    Pieces-append given bytes stands.rest more stands.pieces in
+    let later = read_from (length rest) rest (omega arith)
+    (rest_is_bytes given (bytes ++ more) rest front fits) in
+    let stops : Stops later.1 =
+    elim later.3 [
+      | inl none ↦ end_stops later.1 none
+      | inr has ↦ HasCause-stops later.1 has.0 has.1
+    ] in
+    let all : Pieces (given ++ later.0) (bytes ++ more) later.1 =
+    Pieces-join given later.0 (bytes ++ more) rest later.1 front later.2 in (
+      later.0,
+      (same_pieces messages (given ++ later.0) (bytes ++ more) is.rest later.1 is.pieces all
+          (ended_stops (bytes ++ more) is.rest fault is.ended) stops).0,
+    )

@@ -1,9 +1,11 @@
 -- The pieces at the front of a list of bytes.
-use Rattle.std.proofs.Common.{◌≡◌, ℕ, ◌+◌, ◌-◌, ◌≤◌, List, [], ◌∷◌, ◌++◌, length, take, drop, Ok, refl, sym, ap, ◌∙◌, append_assoc, arith, length-append, length-take, length-drop}
+use Rattle.std.proofs.Common.{◌≡◌, ℕ, ◌+◌, ◌-◌, ◌≤◌, List, [], ◌∷◌, ◌++◌, length, take, drop, Ok, refl, sym, ap, subst, ◌∙◌, append_assoc, arith, length-append, length-take, length-drop}
 use Rattle.std.specs.Int.{w32, to_be_bytes, from_be_bytes}
+use Rattle.std.specs.List.{sum_by}
 use Rattle.std.proofs.lemmas.List.{take-append-le}
+use Rattle.std.proofs.lemmas.List.Sums.{sum_by-cons}
 use Rattle.std.proofs.lemmas.Nat.{from_be_bytes-to_be_bytes_4}
-use Rattle.agent_message.specs.Captures.{Pieces, max_message, piece, said_length}
+use Rattle.agent_message.specs.Captures.{Pieces, max_message, piece, piece_length, said_length}
 use Rattle.agent_message.specs.Decoding.{Decodes}
 use Rattle.agent_message.specs.Layout.{IsEncodable, canonical}
 use Rattle.agent_message.specs.declared.message.Message.{Message}
@@ -92,4 +94,37 @@ rest_is_short (m ∷ messages) bytes rest are =
       ap length are.2,
       length-append (piece are.0) are.1,
       rest_is_short messages are.1 rest are.4,
+    )
+
+-- pieces and what is behind them are as long as they say
+pub length-Pieces : (messages : List Message) (bytes rest : List ℕ) → Pieces messages bytes rest
+    → length bytes ≡ sum_by piece_length messages + length rest
+length-Pieces [] bytes rest are = omega (arith, ap length are)
+length-Pieces (m ∷ messages) bytes rest are =
+    omega (
+      arith,
+      sum_by-cons piece_length m messages,
+      ap length are.2,
+      length-piece are.0 are.1,
+      (spelled_parts m are.0 are.3.0).long,
+      length-Pieces messages are.1 rest are.4,
+    )
+
+-- pieces behind pieces
+pub Pieces-join : (messages more : List Message) (bytes middle rest : List ℕ)
+    → Pieces messages bytes middle → Pieces more middle rest → Pieces (messages ++ more) bytes rest
+Pieces-join [] more bytes middle rest first second =
+    subst (λ bytes. Pieces more bytes rest) (sym first) second
+Pieces-join (m ∷ messages) more bytes middle rest first second =
+    (first.0, first.1, first.2, first.3, Pieces-join messages more first.1 middle rest first.4 second)
+
+-- the rest stands at the end
+pub rest_behind : (messages : List Message) (bytes rest : List ℕ) → Pieces messages bytes rest
+    → (front : List ℕ) × (bytes ≡ front ++ rest)
+rest_behind [] bytes rest are = ([], are)
+rest_behind (m ∷ messages) bytes rest are =
+    let behind = rest_behind messages are.1 rest are.4 in (
+      piece are.0 ++ behind.0,
+      are.2 ∙ ap (λ more. piece are.0 ++ more) behind.1
+          ∙ sym (append_assoc (piece are.0) behind.0 rest),
     )

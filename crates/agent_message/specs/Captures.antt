@@ -16,6 +16,10 @@ max_message = 65656
 abbrev pub piece : List ℕ → List ℕ
 piece spelled = to_be_bytes w32 (length spelled) ++ spelled
 
+-- how many bytes the piece of a message has: 4 for the length, 120 for the header, and the payload
+abbrev pub piece_length : Message → ℕ
+piece_length m = 124 + length m.payload
+
 -- the bytes are a piece for each of these messages in order, sound and whole, and then the rest
 abbrev pub Pieces : List Message → List ℕ → List ℕ → Type 0
 Pieces [] bytes rest = bytes ≡ rest

@@ -1,8 +1,9 @@
 //! What holds of every message and of every list of bytes.
 
-ghost use Rattle.std.specs.Prelude.{◌≡◌, ◌<◌, ℕ, All, List, None, Option, Result, Ok};
-ghost use Rattle.std.specs.List.{flat_map};
-ghost use Rattle.agent_message.specs.Captures.{IsCapture, piece};
+ghost use Rattle.std.specs.Prelude.{◌≡◌, ◌<◌, ◌+◌, ◌++◌, ℕ, All, List, None, Option, Result, Ok, length};
+ghost use Rattle.std.specs.List.{flat_map, sum_by};
+ghost use Rattle.agent_message.specs.CaptureReading.{Pending, StandsFor};
+ghost use Rattle.agent_message.specs.Captures.{IsCapture, Pieces, piece, piece_length};
 ghost use Rattle.agent_message.specs.Decoding.{Decodes};
 ghost use Rattle.agent_message.specs.Layout.{canonical, IsEncodable};
 ghost use Rattle.agent_message.specs.declared.capture_fault.CaptureFault.{CaptureFault};
@@ -44,4 +45,19 @@ pub fn bytes_are_one_capture()
     ensures { (bytes : List ℕ) (messages others : List Message) (fault other : Option CaptureFault)
         → IsCapture bytes messages fault → IsCapture bytes others other
         → (messages ≡ others) × (fault ≡ other) }
+{}
+
+/// The pieces of messages are as long as their payloads say, so the place of each is known.
+pub fn pieces_have_their_length()
+    ensures { (messages : List Message) (bytes rest : List ℕ) → Pieces messages bytes rest
+        → length bytes ≡ sum_by piece_length messages + length rest }
+{}
+
+/// The messages that a reader gives of the first bytes of a capture are its first messages.
+pub fn first_bytes_give_first_messages()
+    ensures { (p : Pending) (bytes more : List ℕ) (given messages : List Message)
+        (fault : Option CaptureFault)
+        → All (λ byte. byte < 256) (bytes ++ more) → StandsFor p bytes given
+        → IsCapture (bytes ++ more) messages fault
+        → (others : List Message) × (messages ≡ given ++ others) }
 {}

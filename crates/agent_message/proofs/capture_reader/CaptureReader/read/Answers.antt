@@ -15,8 +15,8 @@ loop-reader-init c = (
   λ before given s. rw (
     c.in_ok-reader.ensures,
     c.new-messages.ensures.items,
-    append-nil,
-    append-nil,
+    append-nil before,
+    append-nil given,
   ) s,
 )
 
