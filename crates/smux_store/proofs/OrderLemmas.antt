@@ -55,9 +55,9 @@ touch_act role a x s v t o h e told taken l w =
     let count = touch_living s x t a o.distinct h in
     let sum = touch_holding s x t a o.distinct h in
     let alive : one (live s (a ++ x ∷ [])) ≡ one (is_live v) =
-        ap (λ (z : View). one (is_live z)) e in
+    ap (λ (z : View). one (is_live z)) e in
     let waits : length (untaken s (a ++ x ∷ [])) ≡ length (waiting v) =
-        ap (λ (z : View). length (waiting z)) e in
+    ap (λ (z : View). length (waiting z)) e in
     record {
       orderly = touch_orderly role s x t a h (subst IsTold (sym e) told) (subst IsTaken (sym e) taken) o;
       living = omega (arith, count, alive, l);
@@ -76,8 +76,8 @@ begin_act role a x s b o new passed =
     let sum = begin_holding s x b a new in
     let i = o.idle s new in
     let none : length (untaken s (a ++ x ∷ [])) ≡ 0 =
-        ap (λ (z : View). length (waiting z)) (b.same a)
-        ∙ (let g = i.got in let d = i.delivered in rw (g, d) refl) in
+    ap (λ (z : View). length (waiting z)) (b.same a)
+    ∙ (let g = i.got in let d = i.delivered in rw (g, d) refl) in
     let few : one (live s (a ++ x ∷ [])) ≤ 1 = at_most (live s (a ++ x ∷ [])) in
     let opens : count_in (opened_in x) ≡ 1 = ap count_in b.opens in
     record {
@@ -114,11 +114,11 @@ fewer o e f l false = rw l (omega arith)
 pub act_goes : (role : Bool) (a : List Act) (x : Act) → Row role a x → May role a x → IsOrderly role a → Goes role a x
 act_goes role a x (rows.began _ s e) m o =
     let len : length (streams (a ++ x ∷ [])) ≡ length (streams a) + 1 =
-        ap length (begin_streams s x (began s) a) ∙ length-append (streams a) (s ∷ []) in
+    ap length (begin_streams s x (began s) a) ∙ length-append (streams a) (s ∷ []) in
     let new : opened s a ≡ false = ⊎_elim
-        (λ (h : opened s a ≡ true). absurd (let p : WasPassed true a s = o.passed s h in omega (arith, p, e)))
-        (λ (h : opened s a ≡ false). h)
-        (cases_Bool (opened s a)) in
+    (λ (h : opened s a ≡ true). absurd (let p : WasPassed true a s = o.passed s h in omega (arith, p, e)))
+    (λ (h : opened s a ≡ false). h)
+    (cases_Bool (opened s a)) in
     begin_act true a x s (began s) o new (omega (arith, len, e))
 act_goes role a x (rows.wrote _ _ s bytes h e) m o = quiet_act role a x (wrote_quiet s bytes) o
 act_goes role a x (rows.shut _ _ s h e) m o =
@@ -127,7 +127,7 @@ act_goes role a x (rows.shut _ _ s h e) m o =
 act_goes role a x (rows.took _ _ s bytes rest n e) m o =
     let new : View = record (view s a) { delivered = delivered s a ++ bytes } in
     let l : length (got s a) ≡ length (delivered s a ++ bytes) + length rest =
-        ap length (sym e) ∙ length-append (delivered s a ++ bytes) rest in
+    ap length (sym e) ∙ length-append (delivered s a ++ bytes) rest in
     let now = length-drop (length (delivered s a ++ bytes)) (got s a) in
     let old = length-drop (length (delivered s a)) (got s a) in
     let more = length-append (delivered s a) bytes in
@@ -142,9 +142,9 @@ act_goes role a x (rows.opens _ s e) m o =
     let all = i.0 in
     let self : ltb s s ≡ false = le-ltb s s (omega arith) in
     let new : opened s a ≡ false = ⊎_elim
-        (λ (h : opened s a ≡ true). absurd (both_ways (list_all (λ t. ltb t s) (called a)) (o.passed s h) all))
-        (λ (h : opened s a ≡ false). h)
-        (cases_Bool (opened s a)) in
+    (λ (h : opened s a ≡ true). absurd (both_ways (list_all (λ t. ltb t s) (called a)) (o.passed s h) all))
+    (λ (h : opened s a ≡ false). h)
+    (cases_Bool (opened s a)) in
     begin_act false a x s (opens_here s) o new (called_test a x s ∙ (rw (all, self) refl))
 act_goes role a x (rows.refuses _ s e) m o = quiet_act role a x (refused_quiet s) o
 act_goes role a x (rows.syn _ _ s) m o = quiet_act role a x (quiet_came (Syn s)) o

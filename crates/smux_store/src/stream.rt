@@ -3,8 +3,8 @@
 ghost use Rattle.std.specs.Prelude.{◌≡◌, ◌++◌, ◌-◌, [], OnOk, OnErr, true, false, take, length};
 ghost use Rattle.smux_store.specs.Streams.{Gives, fresh, with_data, without_last};
 
-use crate::byte_queue::ByteQueue;
 use crate::answers::Taken;
+use crate::byte_queue::ByteQueue;
 use chan_values::NoMemory;
 use std::alloc::Global;
 

@@ -6,8 +6,8 @@ ghost use Rattle.std.specs.BTreeMap.{get};
 ghost use Rattle.smux_store.specs.declared.stream.Stream.{Stream};
 ghost use Rattle.smux_store.specs.Streams.{Gives, changed_at, fresh, is_dead, still, takes_data, undo_at, with_data, with_end, with_shut};
 
-use crate::stream::Stream;
 use crate::answers::Taken;
+use crate::stream::Stream;
 use crate::trail::Step;
 use chan_values::NoMemory;
 use std::alloc::Global;

@@ -177,9 +177,14 @@ reads client g = by_pushes (λ g. IsLegal client g → Reads (seen client g) (co
 pub consumed_law : FramesAreThoseConsumed
 consumed_law client g l small =
     let r = reads client g l in
-    let m = meaning_law (consumed g) small in
-    ((read (consumed g)).frames, (m.rest, record {
-      spelled = m.frames;
-      partial = subst IsPartial (sym (m.sound r.sound)) m.partial;
-      came = r.came;
-    }))
+    let m = meaning_law (consumed g) small in (
+      (read (consumed g)).frames,
+      (
+        m.rest,
+        record {
+          spelled = m.frames;
+          partial = subst IsPartial (sym (m.sound r.sound)) m.partial;
+          came = r.came;
+        },
+      ),
+    )
