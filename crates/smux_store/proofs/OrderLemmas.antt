@@ -59,7 +59,8 @@ touch_act role a x s v t o h e told taken l w =
     let waits : length (untaken s (a ++ x ∷ [])) ≡ length (waiting v) =
     ap (λ (z : View). length (waiting z)) e in
     record {
-      orderly = touch_orderly role s x t a h (subst IsTold (sym e) told) (subst IsTaken (sym e) taken) o;
+      orderly = touch_orderly role s x t a h (subst IsTold (sym e) told)
+          (subst IsTaken (sym e) taken) o;
       living = omega (arith, count, alive, l);
       holding = omega (arith, sum, waits, w);
     }
@@ -99,7 +100,8 @@ told_quiet s consumed window = record {
 
 -- which tests let a SYN open a stream
 pub opened_inv : (new room : Bool) (s : ℕ)
-    → Some (events.Opened s) ≡ cond (not new) None (cond room (Some (events.Opened s)) (Some (events.Refused s)))
+    → Some (events.Opened s)
+    ≡ cond (not new) None (cond room (Some (events.Opened s)) (Some (events.Refused s)))
     → (new ≡ true) × (room ≡ true)
 opened_inv true true s e = (refl, refl)
 opened_inv true false s e = cc
@@ -111,18 +113,24 @@ fewer o e f l true = rw l (omega arith)
 fewer o e f l false = rw l (omega arith)
 
 -- any act that may happen
-pub act_goes : (role : Bool) (a : List Act) (x : Act) → Row role a x → May role a x → IsOrderly role a → Goes role a x
+pub act_goes : (role : Bool) (a : List Act) (x : Act)
+    → Row role a x
+    → May role a x
+    → IsOrderly role a
+    → Goes role a x
 act_goes role a x (rows.began _ s e) m o =
     let len : length (streams (a ++ x ∷ [])) ≡ length (streams a) + 1 =
     ap length (begin_streams s x (began s) a) ∙ length-append (streams a) (s ∷ []) in
     let new : opened s a ≡ false = ⊎_elim
-    (λ (h : opened s a ≡ true). absurd (let p : WasPassed true a s = o.passed s h in omega (arith, p, e)))
+    (λ (h : opened s a ≡ true). absurd (let p : WasPassed true a s = o.passed s h in
+    omega (arith, p, e)))
     (λ (h : opened s a ≡ false). h)
     (cases_Bool (opened s a)) in
     begin_act true a x s (began s) o new (omega (arith, len, e))
 act_goes role a x (rows.wrote _ _ s bytes h e) m o = quiet_act role a x (wrote_quiet s bytes) o
 act_goes role a x (rows.shut _ _ s h e) m o =
-    touch_act role a x s (record (view s a) { ended = true }) (shut_touches s) o h (shut_view s a) (o.told s)
+    touch_act role a x s (record (view s a) { ended = true }) (shut_touches s) o h (shut_view s a)
+    (o.told s)
     (o.taken s) (fewer (opened s a) (ended s a) (finished s a) m.0 _) (omega arith)
 act_goes role a x (rows.took _ _ s bytes rest n e) m o =
     let new : View = record (view s a) { delivered = delivered s a ++ bytes } in
@@ -131,18 +139,23 @@ act_goes role a x (rows.took _ _ s bytes rest n e) m o =
     let now = length-drop (length (delivered s a ++ bytes)) (got s a) in
     let old = length-drop (length (delivered s a)) (got s a) in
     let more = length-append (delivered s a) bytes in
-    touch_act role a x s new (took_touches s bytes) o (and_parts _ _ m.0).0 (took_view s bytes a) (o.told s)
+    touch_act role a x s new (took_touches s bytes) o (and_parts _ _ m.0).0 (took_view s bytes a)
+    (o.told s)
     (omega (arith, l)) (omega arith) (omega (arith, now, old, more))
 act_goes role a x (rows.finishes _ _ s h e) m o =
-    touch_act role a x s (record (view s a) { finished = true }) (end_touches s) o (and_parts _ _ m.0).0
-    (end_view s a) (λ i. h) (o.taken s) (fewer (opened s a) (ended s a) (finished s a) m.0 _) (omega arith)
-act_goes role a x (rows.told _ _ s consumed window) m o = quiet_act role a x (told_quiet s consumed window) o
+    touch_act role a x s (record (view s a) { finished = true }) (end_touches s) o
+    (and_parts _ _ m.0).0
+    (end_view s a) (λ i. h) (o.taken s) (fewer (opened s a) (ended s a) (finished s a) m.0 _)
+    (omega arith)
+act_goes role a x (rows.told _ _ s consumed window) m o =
+    quiet_act role a x (told_quiet s consumed window) o
 act_goes role a x (rows.opens _ s e) m o =
     let i = opened_inv (list_all (λ t. ltb t s) (called a)) (ltb (living a) 1024) s m in
     let all = i.0 in
     let self : ltb s s ≡ false = le-ltb s s (omega arith) in
     let new : opened s a ≡ false = ⊎_elim
-    (λ (h : opened s a ≡ true). absurd (both_ways (list_all (λ t. ltb t s) (called a)) (o.passed s h) all))
+    (λ (h : opened s a ≡ true).
+    absurd (both_ways (list_all (λ t. ltb t s) (called a)) (o.passed s h) all))
     (λ (h : opened s a ≡ false). h)
     (cases_Bool (opened s a)) in
     begin_act false a x s (opens_here s) o new (called_test a x s ∙ (rw (all, self) refl))
@@ -160,11 +173,13 @@ act_goes role a x (rows.ready _ _ s bytes h e) m o =
 act_goes role a x (rows.empty _ _ s) m o = quiet_act role a x (quiet_came (Psh s [])) o
 act_goes role a x (rows.passed _ _ s bytes h) m o = quiet_act role a x (quiet_came (Psh s bytes)) o
 act_goes role a x (rows.ends _ _ s h e) m o =
-    touch_act role a x s (record (view s a) { over = true }) (ended_touches s) o h (ended_view s a) (λ i. refl)
+    touch_act role a x s (record (view s a) { over = true }) (ended_touches s) o h (ended_view s a)
+    (λ i. refl)
     (o.taken s) (omega arith) (omega arith)
 act_goes role a x (rows.fin _ _ s h) m o = quiet_act role a x (quiet_came (Fin s)) o
 act_goes role a x (rows.nop _ _ s) m o = quiet_act role a x (quiet_came (Nop s)) o
-act_goes role a x (rows.upd _ _ s consumed window) m o = quiet_act role a x (quiet_came (Upd s consumed window)) o
+act_goes role a x (rows.upd _ _ s consumed window) m o =
+    quiet_act role a x (quiet_came (Upd s consumed window)) o
 
 -- where nothing happened
 pub orderly_start : (role : Bool) → IsOrderly role []

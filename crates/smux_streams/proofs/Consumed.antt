@@ -65,7 +65,8 @@ byte_reads client s bytes b none r =
       came = come_reads client s.acts (frame_now s.pending b)
           ∙ ap (λ (l : List Signal). l ++ map signal_of frame) r.came
           ∙ sym (map_append (read bytes).frames frame)
-          ∙ ap (λ (p : Pending). map signal_of ((read bytes).frames ++ option_to_list (frame_now p b))) same
+          ∙ ap (λ (p : Pending).
+          map signal_of ((read bytes).frames ++ option_to_list (frame_now p b))) same
           ∙ ap (λ (x : Reading). map signal_of x.frames) (sym more);
       pending = λ h. now;
       sound = ap (λ (p : Pending). p.fault) (sym now) ∙ still_none s.pending b none;
@@ -74,7 +75,8 @@ byte_reads client s bytes b none r =
 -- the bytes of a piece that a run consumes
 run_reads : (client : Bool) (given : List ℕ) (s : Seen) (bytes piece : List ℕ)
     → Reads s bytes
-    → Reads (run client given s piece).seen (bytes ++ take (run client given s piece).consumed piece)
+    → Reads (run client given s piece).seen
+    (bytes ++ take (run client given s piece).consumed piece)
 run_reads client given s bytes [] r = rw append-nil r
 run_reads client given s bytes (b ∷ piece) r =
     at (fault_now s.pending b) (waits client given s.acts (frame_now s.pending b)) refl
@@ -171,7 +173,8 @@ reads client g = by_pushes (λ g. IsLegal client g → Reads (seen client g) (co
     (λ l. none_read client)
     (λ g e before l.
     let p = legal_push client g e l in
-    rw (seen_push, consumed_push) (entry_reads client (given g) (seen client g) (consumed g) e p.1.1 (before p.0)))
+    rw (seen_push, consumed_push)
+    (entry_reads client (given g) (seen client g) (consumed g) e p.1.1 (before p.0)))
     g
 
 pub consumed_law : FramesAreThoseConsumed

@@ -1,4 +1,5 @@
--- What every legal history of one end keeps, whatever the other end is: the order, what was taken, the bounds.
+-- What every legal history of one end keeps, whatever the other end is: the order, what was taken,
+-- the bounds.
 use Rattle.std.proofs.Common.{◌≡◌, ◌≢◌, ℕ, ◌+◌, ◌*◌, ◌<◌, ◌≤◌, Bool, true, false, eqb, leb, ltb, cond, not, ◌||◌, Option, Some, None, List, [], ◌∷◌, ◌++◌, inl, inr, ⊎_elim, refl, sym, ap, subst, ◌∙◌, arith, length, take, drop}
 use Rattle.std.specs.List.{fold, list_any}
 use Rattle.std.proofs.Math.Seq.{drop-length, take-nil}
@@ -71,7 +72,8 @@ act_lone : (client : Bool) (given : List ℕ) (s : Seen) (p : Pending) (x : Act)
     → Lone client given (record { pending = p; acts = s.acts ++ x ∷ [] })
 act_lone client given s p x m f k =
     let g = act_goes client s.acts x (row m) m k.orderly in
-    let all = ap length (outbytes_push s.acts x) ∙ length-append (outbytes s.acts) (bytes_opt (sent_in x)) in
+    let all = ap length (outbytes_push s.acts x)
+    ∙ length-append (outbytes s.acts) (bytes_opt (sent_in x)) in
     let rest = ap length (left_push given s.acts x k.within)
     ∙ length-append (left given s.acts) (bytes_opt (sent_in x)) in
     let before = k.within in
@@ -107,27 +109,72 @@ came_fits : (client : Bool) (given : List ℕ) (s : Seen) (x : Signal) (e : Opti
 came_fits client given s x e (rows.opens _ t f) m w k =
     let i = opened_inv _ (ltb (living s.acts) 1024) t m in
     let l = ltb-true (living s.acts) 1024 i.1 in
-    record { outgoing = omega (arith, k.outgoing); few = omega (arith, l); held = omega (arith, k.held) }
+    record {
+      outgoing = omega (arith, k.outgoing);
+      few = omega (arith, l);
+      held =
+          omega (arith, k.held);
+    }
 came_fits client given s x e (rows.refuses _ t f) m w k =
     let l = leb-true _ 1048576 (not-false (has_room given s.acts 8) w) in
     record { outgoing = omega (arith, l); few = omega (arith, k.few); held = omega (arith, k.held) }
 came_fits client given s x e (rows.ready _ _ t bytes o f) m w k =
     let l = leb-true _ 4194304 (not-false (leb (holding s.acts + length bytes) 4194304) w) in
-    record { outgoing = omega (arith, k.outgoing); few = omega (arith, k.few); held = omega (arith, l) }
+    record {
+      outgoing = omega (arith, k.outgoing);
+      few = omega (arith, k.few);
+      held =
+          omega (arith, l);
+    }
 came_fits client given s x e (rows.syn _ _ t) m w k =
-    record { outgoing = omega (arith, k.outgoing); few = omega (arith, k.few); held = omega (arith, k.held) }
+    record {
+      outgoing = omega (arith, k.outgoing);
+      few = omega (arith, k.few);
+      held =
+          omega (arith, k.held);
+    }
 came_fits client given s x e (rows.empty _ _ t) m w k =
-    record { outgoing = omega (arith, k.outgoing); few = omega (arith, k.few); held = omega (arith, k.held) }
+    record {
+      outgoing = omega (arith, k.outgoing);
+      few = omega (arith, k.few);
+      held =
+          omega (arith, k.held);
+    }
 came_fits client given s x e (rows.passed _ _ t bytes f) m w k =
-    record { outgoing = omega (arith, k.outgoing); few = omega (arith, k.few); held = omega (arith, k.held) }
+    record {
+      outgoing = omega (arith, k.outgoing);
+      few = omega (arith, k.few);
+      held =
+          omega (arith, k.held);
+    }
 came_fits client given s x e (rows.ends _ _ t o f) m w k =
-    record { outgoing = omega (arith, k.outgoing); few = omega (arith, k.few); held = omega (arith, k.held) }
+    record {
+      outgoing = omega (arith, k.outgoing);
+      few = omega (arith, k.few);
+      held =
+          omega (arith, k.held);
+    }
 came_fits client given s x e (rows.fin _ _ t f) m w k =
-    record { outgoing = omega (arith, k.outgoing); few = omega (arith, k.few); held = omega (arith, k.held) }
+    record {
+      outgoing = omega (arith, k.outgoing);
+      few = omega (arith, k.few);
+      held =
+          omega (arith, k.held);
+    }
 came_fits client given s x e (rows.nop _ _ t) m w k =
-    record { outgoing = omega (arith, k.outgoing); few = omega (arith, k.few); held = omega (arith, k.held) }
+    record {
+      outgoing = omega (arith, k.outgoing);
+      few = omega (arith, k.few);
+      held =
+          omega (arith, k.held);
+    }
 came_fits client given s x e (rows.upd _ _ t c v) m w k =
-    record { outgoing = omega (arith, k.outgoing); few = omega (arith, k.few); held = omega (arith, k.held) }
+    record {
+      outgoing = omega (arith, k.outgoing);
+      few = omega (arith, k.few);
+      held =
+          omega (arith, k.held);
+    }
 
 -- one byte of a feed
 byte_lone : (client : Bool) (given : List ℕ) (s : Seen) (p : Pending) (o : Option Frame)
@@ -139,7 +186,8 @@ byte_lone client given s p (Some f) w k =
     let x = signal_of f in
     let e = event_of client s.acts x in
     act_lone client given s p (Came x e) refl
-    (came_fits client given s x e (row {client = client} {a = s.acts} {x = Came x e} refl) refl w k) k
+    (came_fits client given s x e (row {client = client} {a = s.acts} {x = Came x e} refl) refl w k)
+    k
 
 -- the bytes of a feed
 run_lone : (client : Bool) (given : List ℕ) (s : Seen) (bytes : List ℕ)
@@ -162,7 +210,9 @@ run_lone client given s (b ∷ bytes) k =
 
 -- which tests let a stream open, and bytes be written
 open_tests : (ids few room : Bool) (n m : ℕ)
-    → opens.Sid n ≡ cond (not ids) opens.IdsSpent (cond (not few) opens.TooMany (cond (not room) opens.Full (opens.Sid m)))
+    → opens.Sid n
+    ≡ cond (not ids) opens.IdsSpent
+    (cond (not few) opens.TooMany (cond (not room) opens.Full (opens.Sid m)))
     → (n ≡ m) × ((few ≡ true) × (room ≡ true))
 open_tests true true true n m e = (cc, (refl, refl))
 open_tests true true false n m e = cc
@@ -170,7 +220,9 @@ open_tests true false room n m e = cc
 open_tests false few room n m e = cc
 
 write_tests : (lives shut room : Bool)
-    → writes.Done ≡ cond (not lives) writes.Unknown (cond shut writes.Closed (cond (not room) writes.Full writes.Done))
+    → writes.Done
+    ≡ cond (not lives) writes.Unknown
+    (cond shut writes.Closed (cond (not room) writes.Full writes.Done))
     → (lives ≡ true) × ((shut ≡ false) × (room ≡ true))
 write_tests true false true e = (refl, (refl, refl))
 write_tests true false false e = cc
@@ -178,7 +230,9 @@ write_tests true true room e = cc
 write_tests false shut room e = cc
 
 -- a call that does nothing
-same_lone : (client : Bool) (given : List ℕ) (s : Seen) → Lone client given s → Lone client (given ++ []) s
+same_lone : (client : Bool) (given : List ℕ) (s : Seen)
+    → Lone client given s
+    → Lone client (given ++ []) s
 same_lone client given s k = rw append-nil k
 
 -- a call that sends a frame
@@ -241,7 +295,8 @@ entry_lone : (client : Bool) (given : List ℕ) (s : Seen) (e : Entry)
     → Lone client given s
     → Lone client (given ++ given_in e) (entry_seen client s e)
 entry_lone client given s (Opens (opens.Sid n)) c (r, inl h) k =
-    let i = open_tests (ltb (length (streams s.acts)) 2147483647) (ltb (living s.acts) 1024) (has_room given s.acts 8) n _ h in
+    let i = open_tests (ltb (length (streams s.acts)) 2147483647) (ltb (living s.acts) 1024)
+    (has_room given s.acts 8) n _ h in
     let l = ltb-true (living s.acts) 1024 i.1.0 in
     sent_lone client given s (Began n) 8 (r, i.0) refl i.1.1 (omega (arith, l)) refl k
 entry_lone client given s (Opens (opens.Sid n)) c (r, inr h) k = cc
@@ -250,8 +305,10 @@ entry_lone client given s (Opens opens.TooMany) c a k = same_lone client given s
 entry_lone client given s (Opens opens.Full) c a k = same_lone client given s k
 entry_lone client given s (Opens opens.NoMemory) c a k = same_lone client given s k
 entry_lone client given s (Writes sid bytes writes.Done) c (inl h) k =
-    let i = write_tests (live sid s.acts) (ended sid s.acts) (has_room given s.acts (8 + length bytes)) h in
-    sent_lone client given s (Wrote sid bytes) (8 + length bytes) (i.0, i.1.0) (omega arith) i.1.1 (omega (arith, k.few)) refl k
+    let i = write_tests (live sid s.acts) (ended sid s.acts)
+    (has_room given s.acts (8 + length bytes)) h in
+    sent_lone client given s (Wrote sid bytes) (8 + length bytes) (i.0, i.1.0) (omega arith) i.1.1
+    (omega (arith, k.few)) refl k
 entry_lone client given s (Writes sid bytes writes.Done) c (inr h) k = cc
 entry_lone client given s (Writes sid bytes writes.Unknown) c a k = same_lone client given s k
 entry_lone client given s (Writes sid bytes writes.Closed) c a k = same_lone client given s k
@@ -272,8 +329,13 @@ entry_lone client given s (Outs max (Some bytes)) c (inr h) k = cc
 entry_lone client given s (Holds answer) c a k = same_lone client given s k
 entry_lone client given s (Takes sid max (takes.Bytes bytes)) c (inl h) k =
     let i = took_inv (live sid s.acts) (over sid s.acts) (untaken sid s.acts) bytes max c h in
-    taken_lone client given s (Took sid bytes)
-    (i.0, (i.1.1, (drop max (untaken sid s.acts), took_may s.acts sid max bytes (k.taker.part sid) i.1.0)))
+    taken_lone client given s (Took sid bytes) (
+      i.0,
+      (
+        i.1.1,
+        (drop max (untaken sid s.acts), took_may s.acts sid max bytes (k.taker.part sid) i.1.0),
+      ),
+    )
     refl refl refl k
 entry_lone client given s (Takes sid max (takes.Bytes bytes)) c (inr h) k = cc
 entry_lone client given s (Takes sid max takes.End) c (inl h) k =
@@ -288,19 +350,24 @@ entry_lone client given s (Feeds piece None) c a k = same_lone client given s k
 entry_lone client given s (Feeds piece (Some fed)) c (inr h) k = cc
 entry_lone client given s (Feeds piece (Some fed)) c (inl h) k =
     let r = run client given s piece in
-    let same : fed ≡ record { consumed = r.consumed; events = fed.events; fault = r.seen.pending.fault } = cc in
+    let same : fed
+    ≡ record { consumed = r.consumed; events = fed.events; fault = r.seen.pending.fault } =
+    cc in
     let now : with_fault (fold (byte_seen client) s (take fed.consumed piece)) fed.fault ≡ r.seen =
     ap (λ (f : Fed). with_fault (fold (byte_seen client) s (take f.consumed piece)) f.fault) same
     ∙ run_seen client given s piece in
     rw append-nil (subst (Lone client given) (sym now) (run_lone client given s piece k))
 
-pub lone : (client : Bool) (g : List Entry) → IsLegal client g → Lone client (given g) (seen client g)
+pub lone : (client : Bool) (g : List Entry)
+    → IsLegal client g
+    → Lone client (given g) (seen client g)
 unfolding given
 lone client g = by_pushes (λ g. IsLegal client g → Lone client (given g) (seen client g))
     (λ l. lone_start client)
     (λ g e before l.
     let p = legal_push client g e l in
-    rw (given_push, seen_push) (entry_lone client (given g) (seen client g) e p.1.0 p.1.1 (before p.0)))
+    rw (given_push, seen_push)
+    (entry_lone client (given g) (seen client g) e p.1.0 p.1.1 (before p.0)))
     g
 
 pub bounds_law : BoundsHold
@@ -321,7 +388,8 @@ bytes_told client s t (b ∷ bytes) =
     one : (o : Option Frame) → finished s (come client t.acts o) ≡ finished s t.acts
     one None = refl
     one (Some f) =
-        finished_push s t.acts (Came (signal_of f) (event_of client t.acts (signal_of f))) ∙ or_false _
+        finished_push s t.acts (Came (signal_of f) (event_of client t.acts (signal_of f)))
+        ∙ or_false _
 
 -- one call more tells the end of a stream, or doesn't
 entry_told : (client : Bool) (s : ℕ) (t : Seen) (e : Entry)
@@ -378,7 +446,8 @@ nothing_more : (client : Bool) (given : List ℕ) (t : Seen) (s : ℕ) (e : Entr
     → finished s t.acts ≡ true
     → taken_in s e ≡ []
 nothing_more client given t s (Takes sid max (takes.Bytes bytes)) c (inr h) k f = cc
-nothing_more client given t s (Takes sid max (takes.Bytes bytes)) c (inl h) k f = at (eqb s sid) refl
+nothing_more client given t s (Takes sid max (takes.Bytes bytes)) c (inl h) k f =
+    at (eqb s sid) refl
   where
     at : (b : Bool) → eqb s sid ≡ b → cond (eqb s sid) bytes [] ≡ []
     at false q = rw q refl
@@ -394,11 +463,13 @@ nothing_more client given t s e c a k f = refl
 
 pub end_law : NothingAfterEnd
 end_law client g l s = by_pushes
-    (λ g. IsLegal client g → Each (λ before e. list_any (tells_end s) before ≡ true → taken_in s e ≡ []) g)
+    (λ g. IsLegal client g
+    → Each (λ before e. list_any (tells_end s) before ≡ true → taken_in s e ≡ []) g)
     (λ z. tt)
     (λ g e before z.
     let p = legal_push client g e z in
-    each_snoc (λ before e. list_any (tells_end s) before ≡ true → taken_in s e ≡ []) g e (before p.0)
+    each_snoc (λ before e. list_any (tells_end s) before ≡ true
+    → taken_in s e ≡ []) g e (before p.0)
     (λ h. nothing_more client (given g) (seen client g) s e p.1.0 p.1.1 (lone client g p.0).taker
     (sym (told_is client s g) ∙ h)))
     g l
