@@ -18,6 +18,7 @@ from schedule import some_input
 
 TOP = Path(__file__).resolve().parent.parent
 SHORT = 40
+LIMIT = 300
 
 
 def arguments():
@@ -41,8 +42,11 @@ def of_model(words, script, modes):
 
 
 def of_program(program, words, script):
-    """Status, line and output as the built program gives them."""
-    done = subprocess.run([program, *words], input=script, capture_output=True, timeout=300)
+    """Status, line and output as the built program gives them; no status where it does not end."""
+    try:
+        done = subprocess.run([program, *words], input=script, capture_output=True, timeout=LIMIT)
+    except subprocess.TimeoutExpired:
+        return None, b"", b""
     return done.returncode, done.stderr, done.stdout
 
 

@@ -2,7 +2,7 @@
 
 from collections import OrderedDict
 
-from wire import CLOSED, PAUSE, Ack, Item, Stream
+from wire import CLOSED, PAUSE, Ack, Stream
 
 GIVE_UP_AFTER = 3_000
 NUMBERS = 2**63 - 1

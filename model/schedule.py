@@ -2,7 +2,6 @@
 
 from random import Random
 
-from capture import show
 from lab import SCRIPTED
 from script import GRAMMARS, command
 from wire import CLOSED, DATA_NAME, OTHER, PAUSE, START, Message, encode
@@ -26,7 +25,7 @@ class Writer:
     """Writes one script. It runs each line on the model at once, and so knows what was emitted."""
 
     def __init__(self, random, mode, window, modes):
-        self.random, self.ends, self.mode = random, SCRIPTED[mode](window), mode
+        self.random, self.ends = random, SCRIPTED[mode](window)
         self.grammar = {verb: readers for verb, readers in GRAMMARS[mode].items()
                         if verb != "last" or "last" in modes}
         self.lines = []
