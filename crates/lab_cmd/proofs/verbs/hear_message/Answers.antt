@@ -1,7 +1,0 @@
-use Rattle.lab_cmd.proofs.CallLemmas.{IsCalled-heard}
-use Rattle.lab_cmd.proofs.verbs.hear_message.Goals as goal
-
-pub returns : goal.returns
-returns c side k =
-    IsCalled-heard side k c.args.now c.args.end.now _ c.args.message c.heard.result _ c.heard.ensures
-    c.outcome_of_heard.ensures

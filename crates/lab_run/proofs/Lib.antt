@@ -1,0 +1,13 @@
+pub mod WritingLemmas
+pub mod EmissionLemmas
+pub mod DamageLemmas
+pub mod CallLemmas
+pub mod StepLemmas
+pub mod LineLemmas
+pub mod SettleLemmas
+pub mod RightLemmas
+pub mod PairLemmas
+pub mod TypedLemmas
+pub mod RunLemmas
+pub mod PassLemmas
+pub mod SendableLemmas

@@ -1,0 +1,5 @@
+use Rattle.lab_run.proofs.DamageLemmas.{hurt_tells_incoming}
+use Rattle.lab_run.proofs.laws.hurt_tells_incoming.Goals as goal
+
+pub returns : goal.returns
+returns c = hurt_tells_incoming
