@@ -74,7 +74,8 @@ emission_sent : (w : ℕ) (s : List Entry) (call : EndCall) (answer : EndAnswer)
     → IfSome (message_emitted answer) (IsSentFrom (put_items s) (lowest_unacked s + w))
 emission_sent w s call answer room answered =
     by_cases w s
-    (λ call answer. IfSome (message_emitted answer) (IsSentFrom (put_items s) (lowest_unacked s + w)))
+    (λ call answer. IfSome (message_emitted answer)
+    (IsSentFrom (put_items s) (lowest_unacked s + w)))
     (record {
       quiet = λ call answer quiet. rw quiet.emitted tt;
       seq = λ item id now apart. tt;
@@ -99,7 +100,8 @@ acked_taken : (w : ℕ) (s : List Entry) (call : EndCall) (answer : EndAnswer)
     → IfSome (number_acked answer) (λ n. has_number taken n ≡ true)
 acked_taken w s call answer sent taken acks emitted answered =
     by_cases w s
-    (λ call answer. IsHeardOf sent call answer → IfSome (number_acked answer) (λ n. has_number taken n ≡ true))
+    (λ call answer. IsHeardOf sent call answer
+    → IfSome (number_acked answer) (λ n. has_number taken n ≡ true))
     (record {
       quiet = λ call answer quiet emitted. rw quiet.acked tt;
       seq = λ item id now apart emitted. tt;
@@ -244,12 +246,14 @@ ack_taken w r call answer all answered =
       late = λ now n id item there. tt;
       released = λ now n id item absent near. tt;
       acked = λ now n out before. tt;
-      emit_ack = λ now p rest is. All-head (IsTaken taken) p rest (subst (All (IsTaken taken)) is all);
+      emit_ack =
+          λ now p rest is. All-head (IsTaken taken) p rest (subst (All (IsTaken taken)) is all);
       emit_stream = λ now n m below eligible is. tt;
     }) call answer answered
 
 -- an acknowledgement is of a number that was taken, also where more are
-ack_more : (taken more : List ℕ) (out : Outgoing) → AcksTaken taken out → AcksTaken (taken ++ more) out
+ack_more : (taken more : List ℕ) (out : Outgoing) → AcksTaken taken out
+    → AcksTaken (taken ++ more) out
 ack_more taken more (Outgoing.Stream m) is = tt
 ack_more taken more (Outgoing.Ack n id date) is = has_number-more taken more n is
 
@@ -282,7 +286,8 @@ receiver_after w s r e agree answered emitted =
           (emissions r ++ cons_option (message_emitted e.answer) [])
           (All-append (AcksTaken taken) (emissions r) (cons_option (message_emitted e.answer) [])
           agree.acks (All-option (AcksTaken taken) (message_emitted e.answer) ack)));
-      acked = λ n there. rw numbers (has_number-more taken (numbers_of new) n (agree.acked n there));
+      acked = λ n there. rw numbers
+          (has_number-more taken (numbers_of new) n (agree.acked n there));
     }
 
 -- the two ends of each world, either way
@@ -313,7 +318,8 @@ agree_after w world x before legal honest side =
     ⊎_elim
     (λ (here : x.side ≡ side).
     let answered : IsAnswered w s x.entry.call x.entry.answer
-    = subst (λ z. IsAnswered w (history_of z world) x.entry.call x.entry.answer) here legal_parts.1 in
+    = subst (λ z. IsAnswered w (history_of z world) x.entry.call x.entry.answer) here
+    legal_parts.1 in
     let emitted : IsHeardOf (emissions r) x.entry.call x.entry.answer
     = subst
     (λ z. IsHeardOf (emissions (history_of (other z) world)) x.entry.call x.entry.answer)
@@ -323,7 +329,8 @@ agree_after w world x before legal honest side =
     (sender_after w s r x.entry (before side) (sound w s (legal_parts.0 side)) answered emitted))
     (λ (there : x.side ≡ other side).
     let answered : IsAnswered w r x.entry.call x.entry.answer
-    = subst (λ z. IsAnswered w (history_of z world) x.entry.call x.entry.answer) there legal_parts.1 in
+    = subst (λ z. IsAnswered w (history_of z world) x.entry.call x.entry.answer) there
+    legal_parts.1 in
     let emitted : IsHeardOf (emissions s) x.entry.call x.entry.answer
     = subst
     (λ z. IsHeardOf (emissions (history_of z world)) x.entry.call x.entry.answer)

@@ -50,8 +50,10 @@ lowest_unacked-le w s r agree =
     let absent = (least_absent-is (numbers_of (taken_items r))).0 in
     ⊎_elim
     (λ (there : has_number (acked_numbers s) next ≡ true).
-    absurd (both_ways (has_number (numbers_of (taken_items r)) next) absent (agree.acked next there)))
-    (λ (gone : has_number (acked_numbers s) next ≡ false). least_absent-le (acked_numbers s) next gone)
+    absurd (both_ways (has_number (numbers_of (taken_items r)) next) absent
+    (agree.acked next there)))
+    (λ (gone : has_number (acked_numbers s) next ≡ false). least_absent-le
+    (acked_numbers s) next gone)
     (cases_Bool (has_number (acked_numbers s) next))
 
 -- what an end hears of the other is not beyond its window
@@ -71,7 +73,8 @@ not_beyond w now s r incoming agree emitted =
     inside (Incoming.Stream n id item) emitted =
         let out = Outgoing.Stream (record { seq = n; id = id; date = emitted.0; item = item }) in
         let bound = lowest_unacked s + w in
-        let sent = All-contains (IsSentFrom (put_items s) bound) (emissions s) out agree.sent emitted.1 in
+        let sent = All-contains (IsSentFrom (put_items s) bound)
+        (emissions s) out agree.sent emitted.1 in
         let low = lowest_unacked-le w s r agree in
         stream_cases w r n item (λ heard. heard ≢ Heard.Beyond)
         (λ there is. cc)
@@ -162,7 +165,8 @@ has_arrived w s r n agree sound there =
           ap (λ (l : List Item). slice_get l n) front
           ∙ slice_get-take (put_items s) (next_in_order r) n item below put;
       early = λ above. Contains-filter
-          (λ p. ltb (next_in_order r) p.0) (taken_items r) contains.0 (n, item) contains.1 contains.2
+          (λ p. ltb (next_in_order r) p.0) (taken_items r) contains.0
+          (n, item) contains.1 contains.2
           (lt-ltb (next_in_order r) n (ahead above));
     }
   where

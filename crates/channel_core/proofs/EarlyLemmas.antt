@@ -174,7 +174,8 @@ item_with-same ps qs different same n =
     ⊎_elim
     (λ (none : item_with ps n ≡ None). absent ∙ sym none)
     (λ (some : (i : Item) × (item_with ps n ≡ Some i)).
-    let there = Contains-permutation ps qs (n, some.0) same (item_with-contains ps n some.0 some.1) in
+    let there = Contains-permutation ps qs (n, some.0) same
+    (item_with-contains ps n some.0 some.1) in
     absurd (in_vain qs there absent))
     (cases_option (item_with ps n)))
     (λ (some : (i : Item) × (item_with qs n ≡ Some i)).

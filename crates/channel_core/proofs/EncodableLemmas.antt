@@ -130,7 +130,8 @@ step w h call answer sound answered =
             numbers = rw append-nil sound.numbers;
             fit = rw append-nil sound.fit;
             small = sound.small;
-            encodable = All-push CanBeEncoded (emissions h) _ sound.encodable (omega arith, fits.0, fits.1);
+            encodable =
+                All-push CanBeEncoded (emissions h) _ sound.encodable (omega arith, fits.0, fits.1);
           };
     })
     call answer answered answered

@@ -62,18 +62,24 @@ sent = EndCall.Opened 0 ∷ put 7 ∷ EndCall.Pull 10 ∷ []
 
 -- the message goes out with its number, id and date
 first_goes : after (EndCall.Opened 0 ∷ put 7 ∷ []) (EndCall.Pull 10)
-    ≡ EndAnswer.Pull (Pull.Emit (Outgoing.Stream (record { seq = 0; id = 7 ∷ []; date = 5; item = item 7 })))
-unfolding run item put answer_to_put answer_to_pull put_messages acked_numbers least_absent is_closed is_up is_paused owed_acks sent_since_opened marked_due
+    ≡ EndAnswer.Pull
+    (Pull.Emit (Outgoing.Stream (record { seq = 0; id = 7 ∷ []; date = 5; item = item 7 })))
+unfolding run item put answer_to_put answer_to_pull put_messages acked_numbers least_absent
+    is_closed is_up is_paused owed_acks sent_since_opened marked_due
 first_goes = refl
 
 -- its timer has not expired after the timeout of 200
 not_due_at_timeout : after sent (EndCall.Tick 210) ≡ EndAnswer.Tick Tick.Nothing
-unfolding sent run item put answer_to_put answer_to_pull answer_to_tick put_messages acked_numbers least_absent is_closed is_up is_paused owed_acks sent_since_opened marked_due transmissions round_trip_samples with_earlier after_samples
+unfolding sent run item put answer_to_put answer_to_pull answer_to_tick put_messages acked_numbers
+    least_absent is_closed is_up is_paused owed_acks sent_since_opened marked_due transmissions
+    round_trip_samples with_earlier after_samples
 not_due_at_timeout = refl
 
 -- but has one millisecond later
 due_past_timeout : after sent (EndCall.Tick 211) ≡ EndAnswer.Tick (Tick.Due 0)
-unfolding sent run item put answer_to_put answer_to_pull answer_to_tick put_messages acked_numbers least_absent is_closed is_up is_paused owed_acks sent_since_opened marked_due transmissions round_trip_samples with_earlier after_samples
+unfolding sent run item put answer_to_put answer_to_pull answer_to_tick put_messages acked_numbers
+    least_absent is_closed is_up is_paused owed_acks sent_since_opened marked_due transmissions
+    round_trip_samples with_earlier after_samples
 due_past_timeout = refl
 
 -- it goes out again, and is acknowledged 100 ms later, which makes the timeout 110
@@ -88,5 +94,7 @@ resent =
     ∷ []
 
 sample_counts : after resent (EndCall.Tick 511) ≡ EndAnswer.Tick (Tick.Due 1)
-unfolding resent sent run item put answer_to_put answer_to_pull answer_to_tick answer_to_ack emissions put_messages acked_numbers least_absent is_closed is_up is_paused owed_acks sent_since_opened marked_due transmissions round_trip_samples with_earlier after_samples
+unfolding resent sent run item put answer_to_put answer_to_pull answer_to_tick answer_to_ack
+    emissions put_messages acked_numbers least_absent is_closed is_up is_paused owed_acks
+    sent_since_opened marked_due transmissions round_trip_samples with_earlier after_samples
 sample_counts = refl

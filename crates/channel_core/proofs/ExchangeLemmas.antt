@@ -58,16 +58,18 @@ pair_after w side world x y out is_pulled is_heard legal honest unclosed ready =
     let answered : IsAnswered w (history_of (other side) one) heard_call y.entry.answer
     = subst
     (λ call. IsAnswered w (history_of (other side) one) call y.entry.answer) is_heard.call
-    (subst (λ z. IsAnswered w (history_of z one) y.entry.call y.entry.answer) is_heard.side legal_y.1) in
+    (subst (λ z. IsAnswered w (history_of z one) y.entry.call y.entry.answer) is_heard.side
+    legal_y.1) in
     let unclosed_r = Unclosed-front one (y ∷ []) unclosed (other side) in
-    let heard = hears w is_heard.now (history_of side one) (history_of (other side) one) out y.entry.answer
-    ends emitted answered unclosed_r is_heard.memory in
+    let heard = hears w is_heard.now (history_of side one) (history_of (other side) one)
+    out y.entry.answer ends emitted answered unclosed_r is_heard.memory in
     let heard_r : Hears r y.entry.call y.entry.answer out
     = subst (λ h. Hears h y.entry.call y.entry.answer out) r1
     (subst
     (λ call. Hears (history_of (other side) one) call y.entry.answer out)
     (sym is_heard.call) heard) in
-    let both = passed s r x.entry y.entry out left heard_r (ready side) (ready_back side world ready) in
+    let both = passed s r x.entry y.entry out left heard_r (ready side)
+    (ready_back side world ready) in
     (honest_y, goes_on side world (one ++ y ∷ []) (rw (s2, r2) both))
 
 -- what a pass leaves
@@ -94,7 +96,8 @@ pass_after w side (x ∷ []) world pass legal honest unclosed ready =
     let answered : IsAnswered w s (EndCall.Pull pass.now) (EndAnswer.Pull Pull.Idle)
     = subst (λ answer. IsAnswered w s (EndCall.Pull pass.now) answer) pass.answer
     (subst (λ call. IsAnswered w s call x.entry.answer) pass.call
-    (subst (λ z. IsAnswered w (history_of z world) x.entry.call x.entry.answer) pass.side legal_x.1)) in
+    (subst (λ z. IsAnswered w (history_of z world) x.entry.call x.entry.answer) pass.side
+    legal_x.1)) in
     let ends = agree w world legal_x.0 honest side in
     let unclosed_s = Unclosed-front world (x ∷ []) unclosed side in
     let back = ready_back side world ready in
@@ -103,7 +106,8 @@ pass_after w side (x ∷ []) world pass legal honest unclosed ready =
     record {
       honest = IsHonest-push world x honest (λ _. rw pass.call tt);
       on = goes_on side world next (rw (s1, r1) both);
-      all = rw (s1, r1) (λ n below. all n (subst (λ (ms : List PutMessage). n < length ms) both.put_s below));
+      all = rw (s1, r1)
+          (λ n below. all n (subst (λ (ms : List PutMessage). n < length ms) both.put_s below));
     }
 pass_after w side (x ∷ y ∷ xs) world pass legal honest unclosed ready =
     let two = (world ++ x ∷ []) ++ y ∷ [] in
@@ -209,7 +213,8 @@ exchange_releases_all w world xs side legal honest exchange unclosed =
     let plugin : AllTaken (history_of Plugin end) (history_of Agent end)
     = λ n below.
     to_plugin.on.taken Agent n
-    (to_agent.all n (subst (λ (ms : List PutMessage). n < length ms) (to_plugin.on.put Plugin) below)) in
+    (to_agent.all n
+    (subst (λ (ms : List PutMessage). n < length ms) (to_plugin.on.put Plugin) below)) in
     let ends = agree w end legal_end to_plugin.honest side in
     let sound_r = sound w (history_of (other side) end) (legal_end (other side)) in
     subst

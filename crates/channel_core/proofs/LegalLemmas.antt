@@ -166,7 +166,8 @@ pull_cases w h now P idle ack stream =
     next (p ∷ owed) is = ack p owed is
     next [] is =
         let least = least_below (is_eligible h) (length (put_messages h)) in
-        cond_both (is_paused h) Pull.Idle (emit_number h least) P (λ _. idle) (λ _. number least refl)
+        cond_both (is_paused h) Pull.Idle (emit_number h least) P (λ _. idle)
+        (λ _. number least refl)
 
 -- an entry that puts, acknowledges, takes, releases, emits and owes nothing
 pub record IsQuiet (call : EndCall) (answer : EndAnswer) : Type 0 where
@@ -238,7 +239,8 @@ by_cases w h P cases (EndCall.Heard now incoming) answer answered =
         → P (EndCall.Heard now incoming) (EndAnswer.Heard (answer_to_incoming w h incoming))
     heard_cases (Incoming.Stream n id item) =
         stream_cases w h n item
-        (λ (heard : Heard). P (EndCall.Heard now (Incoming.Stream n id item)) (EndAnswer.Heard heard))
+        (λ (heard : Heard). P (EndCall.Heard now (Incoming.Stream n id item))
+        (EndAnswer.Heard heard))
         (cases.late now n id item)
         (λ _. cases.quiet _ _ (search rules))
         (cases.released now n id item)

@@ -1,16 +1,8 @@
 -- Openings, losses and closings from this side: from what an end keeps to the entry that follows.
 use Rattle.std.proofs.Common.{◌≡◌, ℕ, ◌+◌, Bool, true, false, ◌||◌, List, [], ◌∷◌, ◌++◌, inl, refl, sym, ap, ◌∙◌, arith, length}
-use Rattle.chan_values.specs.declared.item.Item.{Item}
 use Rattle.resend_queue.specs.Queue.{Pending, reopened}
 use Rattle.channel_core.specs.declared.call.EndAnswer.{EndAnswer}
 use Rattle.channel_core.specs.declared.call.EndCall.{EndCall}
-use Rattle.channel_core.specs.declared.answer.Heard.{Heard}
-use Rattle.channel_core.specs.declared.message.Incoming.{Incoming}
-use Rattle.channel_core.specs.declared.answer.Look.{Look}
-use Rattle.channel_core.specs.declared.message.Outgoing.{Outgoing}
-use Rattle.channel_core.specs.declared.answer.Pull.{Pull}
-use Rattle.channel_core.specs.declared.answer.Put.{Put}
-use Rattle.channel_core.specs.declared.answer.Tick.{Tick}
 use Rattle.channel_core.specs.Call.{Entry}
 use Rattle.channel_core.specs.History.{lowest_unacked, put_messages}
 use Rattle.channel_core.specs.Legal.{IsLegal}
@@ -18,7 +10,7 @@ use Rattle.channel_core.specs.Resending.{due_count}
 use Rattle.channel_core.specs.Stands.{EndState, Stands}
 use Rattle.channel_core.proofs.PendingLemmas.{Sending, kept_all-unsent}
 use Rattle.channel_core.proofs.SendingLemmas.{sending}
-use Rattle.channel_core.proofs.StandsLemmas.{Goes, IsStill, dues-same, or-false, queue_after-is, queue_of, sending-still, step_goes, still_goes, still}
+use Rattle.channel_core.proofs.StandsLemmas.{Goes, dues-same, or-false, queue_after-is, queue_of, sending-still, step_goes, still_goes, still}
 
 pub or-true : (b : Bool) → (b || true) ≡ true
 or-true true = refl

@@ -34,7 +34,8 @@ numbers acks = map (λ p. p.0) acks
 -- ---- each number once
 
 -- whether a number is owed, either way
-list_any-numbers : (acks : Acks) (n : ℕ) → list_any (λ p. eqb n p.0) acks ≡ has_number (numbers acks) n
+list_any-numbers : (acks : Acks) (n : ℕ)
+    → list_any (λ p. eqb n p.0) acks ≡ has_number (numbers acks) n
 list_any-numbers [] n = refl
 list_any-numbers (p ∷ acks) n = ap (λ (b : Bool). eqb n p.0 || b) (list_any-numbers acks n)
 
@@ -77,7 +78,8 @@ different_after : (w : ℕ) (acks : Acks) (answer : EndAnswer) (call : EndCall)
     → AllPairs (λ p q. p.0 ≢ q.0) acks
     → AllPairs (λ p q. p.0 ≢ q.0) (owed_after w acks answer call)
 different_after w acks
-    (EndAnswer.Heard (Heard.Released items)) (EndCall.Heard now (Incoming.Stream n id item)) different =
+    (EndAnswer.Heard (Heard.Released items))
+    (EndCall.Heard now (Incoming.Stream n id item)) different =
     different_with w acks n id different
 different_after w acks
     (EndAnswer.Heard Heard.Late) (EndCall.Heard now (Incoming.Stream n id item)) different =
@@ -112,7 +114,8 @@ absent_behind p acks different =
         (absent acks (All-tail (λ (q : ℕ × List ℕ). p.0 ≢ q.0) q acks apart))
 
 -- a message that was taken or came late is owed
-owed_after-heard : (w : ℕ) (acks : Acks) (now n : ℕ) (id : List ℕ) (item : Item) (answer : EndAnswer)
+owed_after-heard : (w : ℕ) (acks : Acks) (now n : ℕ) (id : List ℕ) (item : Item)
+    (answer : EndAnswer)
     → IsTakenOrLate answer
     → owed_after w acks answer (EndCall.Heard now (Incoming.Stream n id item))
     ≡ owed_with w acks n id
@@ -134,7 +137,8 @@ owed_with-room w acks n id room =
     let never = not-true (ltb (length acks) w) full in
     absurd (both_ways (ltb (length acks) w) never fits))
     (or_cases there (not (ltb (length acks) w)) either))
-    (λ _. ap (λ (l : List ℕ). has_number l n) (map-append (λ (p : ℕ × List ℕ). p.0) acks ((n, id) ∷ []))
+    (λ _. ap (λ (l : List ℕ). has_number l n)
+    (map-append (λ (p : ℕ × List ℕ). p.0) acks ((n, id) ∷ []))
     ∙ has_number-last (numbers acks) n)
 
 -- without room nothing is
@@ -154,7 +158,8 @@ owed_with-other w acks k id n apart =
     cond_both (there || not (ltb (length acks) w)) acks (acks ++ (k, id) ∷ [])
     (λ (l : Acks). has_number (numbers l) n ≡ has_number (numbers acks) n)
     (λ _. refl)
-    (λ _. ap (λ (l : List ℕ). has_number l n) (map-append (λ (p : ℕ × List ℕ). p.0) acks ((k, id) ∷ []))
+    (λ _. ap (λ (l : List ℕ). has_number l n)
+    (map-append (λ (p : ℕ × List ℕ). p.0) acks ((k, id) ∷ []))
     ∙ has_number-other (numbers acks) k n apart)
 
 -- how a call and its answer change whether a number is owed
@@ -169,7 +174,8 @@ OwedTurns w n h call answer =
 heard_turns : (w n : ℕ) (h : List Entry) (now k : ℕ) (id : List ℕ) (item : Item)
     (answer : EndAnswer)
     → IsTakenOrLate answer
-    → (¬ IsAckOf n (record { call = EndCall.Heard now (Incoming.Stream k id item); answer = answer }))
+    → (¬ IsAckOf n
+    (record { call = EndCall.Heard now (Incoming.Stream k id item); answer = answer }))
     → OwedTurns w n h (EndCall.Heard now (Incoming.Stream k id item)) answer
 heard_turns w n h now k id item answer heard no_ack =
     let acks = owed_acks w h in
@@ -214,7 +220,8 @@ heard_turns w n h now k id item answer heard no_ack =
 paid_turns : (w n : ℕ) (h : List Entry) (now : ℕ) (p : ℕ × List ℕ) (acks : Acks)
     → owed_acks w h ≡ p ∷ acks
     → AllPairs (λ p q. p.0 ≢ q.0) (owed_acks w h)
-    → OwedTurns w n h (EndCall.Pull now) (EndAnswer.Pull (Pull.Emit (Outgoing.Ack p.0 p.1 (max now 1))))
+    → OwedTurns w n h (EndCall.Pull now)
+    (EndAnswer.Pull (Pull.Emit (Outgoing.Ack p.0 p.1 (max now 1))))
 paid_turns w n h now p acks is different =
     let paid : numbers (drop 1 (owed_acks w h)) ≡ numbers acks
     = ap (λ (l : Acks). numbers (drop 1 l)) is in
@@ -263,7 +270,8 @@ owed_turns w n h call answer answered =
           (λ ack. let is = ack.2 in cc);
       released = λ now k id item absent near.
           let items = items_released_by (taken_items h) k item in
-          heard_turns w n h now k id item (EndAnswer.Heard (Heard.Released items)) (inl (items, refl))
+          heard_turns w n h now k id item (EndAnswer.Heard (Heard.Released items))
+          (inl (items, refl))
           (λ ack. let is = ack.2 in cc);
       acked = λ now k out before.
           inr (inr (λ finds. let is = finds.call in cc, λ ack. let is = ack.2 in cc, refl));
@@ -356,7 +364,8 @@ acks_keep_their_order w h =
     by_pushes Ordered
     (λ legal. ([], append-nil (line h) ∙ ap line (sym (append-nil h))))
     (λ more e before legal.
-    let joined : h ++ (more ++ e ∷ []) ≡ (h ++ more) ++ e ∷ [] = sym (append_assoc h more (e ∷ [])) in
+    let joined : h ++ (more ++ e ∷ []) ≡ (h ++ more) ++ e ∷ []
+    = sym (append_assoc h more (e ∷ [])) in
     let parts = IsLegal-pushed w (h ++ more) e (subst (IsLegal w) joined legal) in
     let front = before parts.0 in
     let last : IsPrefixOf (line (h ++ more)) (line ((h ++ more) ++ e ∷ []))

@@ -82,7 +82,8 @@ Takes taken (Outgoing.Stream m) = has_number (numbers_of taken) m.seq ≡ true
 Takes taken (Outgoing.Ack n id date) = Unit {0}
 
 -- what hearing an emission leaves
-pub record Hears (r : List Entry) (call : EndCall) (answer : EndAnswer) (out : Outgoing) : Type 0 where
+pub record Hears (r : List Entry) (call : EndCall) (answer : EndAnswer)
+    (out : Outgoing) : Type 0 where
   pub up : up_after (is_up r) call ≡ is_up r
   pub paused : paused_after (is_paused r) answer call ≡ is_paused r
   pub put : message_put answer call ≡ None
@@ -102,7 +103,13 @@ hears_answer w now r (Outgoing.Stream m) inside =
     stream_cases w r m.seq m.item
     (λ heard. heard ≢ Heard.Beyond → Hears r call (EndAnswer.Heard heard) (Outgoing.Stream m))
     (λ there inside.
-    record { up = refl; paused = refl; put = refl; sent = refl; takes = rw (append-nil taken) there })
+    record {
+      up = refl;
+      paused = refl;
+      put = refl;
+      sent = refl;
+      takes = rw (append-nil taken) there;
+    })
     (λ far inside. absurd (inside refl))
     (λ absent near inside.
     let last = has_number-last (numbers_of taken) m.seq in
@@ -232,7 +239,8 @@ idle_next h now [] running idle =
         → emit_message n o ≡ Pull.Idle
         → ⊥
     message n None below is idle =
-        let m : PutMessage = record { item = record { ptype = 0; payload = [] }; id = []; date = 0 } in
+        let m : PutMessage
+        = record { item = record { ptype = 0; payload = [] }; id = []; date = 0 } in
         let value = slice_get-get_or (put_messages h) n m below in
         cc
     message n (Some m) below is idle = cc
@@ -268,7 +276,8 @@ pub idle_taken : (w now : ℕ) (s r : List Entry)
     → IsAnswered w s (EndCall.Pull now) (EndAnswer.Pull Pull.Idle)
     → AllTaken s r
 idle_taken w now s r agree ready unclosed answered n below =
-    let none = least_below-none (is_eligible s) (length (put_messages s)) (least answered) n below in
+    let none = least_below-none (is_eligible s) (length (put_messages s))
+    (least answered) n below in
     let acked = has_number (acked_numbers s) n in
     let sent = has_number (sent_since_opened s) n in
     ⊎_elim

@@ -63,7 +63,8 @@ heard_plain w h out =
   where
     plain : (out : Outgoing)
         → IsPlain
-        (EndCall.Heard 0 (incoming_of out)) (incoming_of out) (answer_to_incoming w h (incoming_of out))
+        (EndCall.Heard 0 (incoming_of out)) (incoming_of out)
+        (answer_to_incoming w h (incoming_of out))
     plain (Outgoing.Stream m) =
         let incoming = Incoming.Stream m.seq m.id m.item in
         stream_cases w h m.seq m.item (IsPlain (EndCall.Heard 0 incoming) incoming)
@@ -124,7 +125,8 @@ emit_passes w side world out legal unclosed is rest =
     let mine : history_of side two ≡ s ++ x.entry ∷ []
     = history_of-there side one y refl ∙ history_of-here side world x refl in
     let less : backlog w (history_of side two) + 1 ≡ backlog w s
-    = ap (λ (h : List Entry). backlog w h + 1) mine ∙ backlog_falls w s x.entry out (inl refl) answer in
+    = ap (λ (h : List Entry). backlog w h + 1) mine
+    ∙ backlog_falls w s x.entry out (inl refl) answer in
     let next = rest two
     (IsLegalWorld-push w one y (IsLegalWorld-push w world x legal (inl refl)) (inl refl))
     (Unclosed-push one y plain.stays (Unclosed-push world x refl unclosed)) less in

@@ -1,4 +1,4 @@
--- Looking for one of the unacknowledged messages: the lowest, the first that may go, one by its number.
+-- One of the unacknowledged messages: the lowest, the first that may go, one by its number.
 use Rattle.std.proofs.Common.{◌≡◌, ◌≢◌, ℕ, ◌+◌, ◌-◌, ◌<◌, ◌≤◌, zero, suc, Bool, true, false, cond, Option, Some, None, List, [], ◌∷◌, ◌++◌, ◌⊎◌, inl, inr, ⊎_elim, refl, sym, ap, ◌∙◌, arith, length, find, eqb, slice_get}
 use Rattle.std.specs.List.{filter_map, cons_option, range_with_len}
 use Rattle.std.specs.Option.{option_and_then}

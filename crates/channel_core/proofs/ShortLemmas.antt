@@ -43,7 +43,8 @@ backlog_of owed put acked sent marked =
 
 abbrev pub backlog : ℕ → List Entry → ℕ
 backlog w h =
-    backlog_of (owed_acks w h) (put_messages h) (acked_numbers h) (sent_since_opened h) (marked_due h)
+    backlog_of (owed_acks w h) (put_messages h) (acked_numbers h) (sent_since_opened h)
+    (marked_due h)
 
 -- and after a call with its answer
 abbrev backlog_after : ℕ → List Entry → EndCall → EndAnswer → ℕ
@@ -103,7 +104,8 @@ falls w h out call answer answered =
           let marked = filter (λ k. not (eqb k n)) (marked_due h) in
           let goes : ℕ → Bool
           = may_go (put_messages h) (acked_numbers h) sent marked in
-          let count = count_below-less (is_eligible h) goes (length (put_messages h)) n below eligible
+          let count = count_below-less (is_eligible h) goes
+          (length (put_messages h)) n below eligible
           (rw (has_number-last (sent_since_opened h) n, has_number-without (marked_due h) n)
           (sent_fails (ltb n (length (put_messages h))) (has_number (acked_numbers h) n)))
           (λ k apart.
@@ -265,7 +267,8 @@ exchange_is_short w world xs side legal exchange =
     let legal_middle = IsLegalWorld-front w (start ++ first) second legal_end in
     let to_agent = pass_pulls w Plugin first start exchange.first legal_middle in
     let to_plugin = pass_pulls w Agent second (start ++ first) exchange.second legal_end in
-    let few_plugin = backlog_within w start Plugin (IsLegalWorld-front w start first legal_middle) in
+    let few_plugin
+    = backlog_within w start Plugin (IsLegalWorld-front w start first legal_middle) in
     let few_agent = backlog_within w (start ++ first) Agent legal_middle in
     let away_agent = pass_away Plugin first exchange.first in
     let away_plugin = pass_away Agent second exchange.second in

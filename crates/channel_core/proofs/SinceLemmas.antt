@@ -281,7 +281,8 @@ sent_turns w h sent n (EndAnswer.Pull (Pull.Emit (Outgoing.Stream m))) call answ
     let other : n ≢ m.seq = λ is. apart (sym is) in
     inr
     (inr (
-      λ out. let is = out.1 in apart (let one : m ≡ out.0 = cc in ap (λ (x : Sent). x.seq) one ∙ out.2),
+      λ out. let is =
+          out.1 in apart (let one : m ≡ out.0 = cc in ap (λ (x : Sent). x.seq) one ∙ out.2),
       λ opened. let is = opened.1 in cc,
       has_number-other sent m.seq n other,
     )))
@@ -323,7 +324,8 @@ marked_turns marked n (EndAnswer.Pull (Pull.Emit (Outgoing.Stream m))) =
     inr
     (inr (
       λ is. cc,
-      λ out. let is = out.1 in apart (let one : m ≡ out.0 = cc in ap (λ (x : Sent). x.seq) one ∙ out.2),
+      λ out. let is =
+          out.1 in apart (let one : m ≡ out.0 = cc in ap (λ (x : Sent). x.seq) one ∙ out.2),
       has_number-kept marked m.seq n other,
     )))
     (cases_eq m.seq n)

@@ -91,7 +91,8 @@ owed_with-few w owed n id few =
     rw added (omega arith))
     (cases_Bool (known || full))
 
-few_after : (w : ℕ) (h : List Entry) (call : EndCall) (answer : EndAnswer) (owed : List (ℕ × List ℕ))
+few_after : (w : ℕ) (h : List Entry) (call : EndCall) (answer : EndAnswer)
+    (owed : List (ℕ × List ℕ))
     → length owed ≤ w
     → IsAnswered w h call answer
     → length (owed_after w owed answer call) ≤ w

@@ -116,7 +116,8 @@ pub step_goes : (w : ℕ) (h : List Entry) (old new : EndState) (call : EndCall)
     → new.paused ≡ paused_after old.paused answer call
     → new.closed ≡ (old.closed || closes answer call)
     → Goes w h new call answer
-step_goes w h old new call answer legal s answered takes_none samples_none queue received estimate owed up paused closed =
+step_goes w h old new call answer legal s answered takes_none samples_none queue received estimate
+    owed up paused closed =
     let e : Entry = record { call = call; answer = answer } in
     let taken : taken_after h e ≡ taken_items h
     = ap (λ (o : Option (ℕ × Item)). taken_items h ++ cons_option o []) takes_none
@@ -232,7 +233,8 @@ pub still_goes : (w : ℕ) (h : List Entry) (old new : EndState) (call : EndCall
     → new.paused ≡ paused_after old.paused answer call
     → new.closed ≡ (old.closed || closes answer call)
     → Goes w h new call answer
-still_goes w h old new call answer legal s answered still queue received estimate owed up paused closed =
+still_goes w h old new call answer legal s answered still queue received estimate owed up paused
+    closed =
     let e : Entry = record { call = call; answer = answer } in
     let zero : due_count h (lowest_unacked h) + 0 ≡ due_count h (lowest_unacked h) = omega arith in
     let dues : due_count (h ++ e ∷ []) (lowest_unacked (h ++ e ∷ [])) ≡ due_count h
@@ -283,7 +285,8 @@ pub stands_nil : (w : ℕ) (end : EndState)
       closed = false;
     }
     → Stands w end []
-unfolding put_messages acked_numbers taken_items owed_acks is_up is_paused is_closed round_trip_samples with_earlier after_samples least_absent
+unfolding put_messages acked_numbers taken_items owed_acks is_up is_paused is_closed
+    round_trip_samples with_earlier after_samples least_absent
 stands_nil w end is = rw is (record {
   queue = refl;
   window = refl;

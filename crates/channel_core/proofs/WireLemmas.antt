@@ -17,7 +17,13 @@ length-data_name Plugin = omega arith
 length-data_name Agent = omega arith
 
 -- the payload of what is encodable fits into a message
-pub length-payload : (side : Side) (out : Outgoing) → CanBeEncoded out → length (message_of side out).payload ≤ 65536
+pub length-payload : (side : Side) (out : Outgoing) → CanBeEncoded out
+    → length (message_of side out).payload ≤ 65536
 length-payload side (Outgoing.Stream sent) encodable = encodable.2
 length-payload side (Outgoing.Ack seq id date) encodable =
-    omega (arith, length-ack_text (ack_body side seq id) (fits_signed seq encodable.0), length-data_name (other side))
+    omega (
+      arith,
+      length-ack_text (ack_body side seq id)
+          (fits_signed seq encodable.0),
+      length-data_name (other side),
+    )

@@ -91,7 +91,7 @@ is_expired h n now =
     && (not (has_number (marked_due h) n)
     && nat_lt (round_trip h).timeout (now - last_moment (transmissions h) n))
 
--- to a tick: it looks at the lowest unacknowledged number alone, and gives up after `max_dues` times
+-- to a tick: it looks at the lowest unacknowledged number alone, and gives it up after `max_dues`
 unfoldable pub answer_to_tick : List Entry → ℕ → Tick
 answer_to_tick h now =
     let n = lowest_unacked h in

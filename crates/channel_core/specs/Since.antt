@@ -1,5 +1,4 @@
--- What has been so since an entry of a history: an entry that begins it, and none after it that ends
--- it. Kinds of entries for that.
+-- What has been so since an entry of a history: one begins it, and none after that one ends it.
 use Rattle.std.specs.Prelude.{◌≡◌, ℕ, ◌<◌, ◌⊎◌, List, ◌∷◌, ◌++◌, length}
 use Rattle.std.specs.List.{All}
 use Rattle.chan_values.specs.declared.item.Item.{Item}

@@ -1,4 +1,4 @@
--- What an end sends as bytes. The names, flags and bodies are those of AWS Session Manager's channel.
+-- What an end sends as bytes, by the names, flags and bodies of AWS Session Manager's data channel.
 pub use Rattle.channel_core.specs.Condition.{CanBeEncoded}
 use Rattle.std.specs.Prelude.{ℕ, ◌==◌, if◌then◌else◌, pos, true, List, codes}
 use Rattle.chan_values.specs.declared.side.Side.{Side}

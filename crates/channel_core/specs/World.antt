@@ -41,8 +41,8 @@ WasEmitted emissions (EndCall.Heard now (Incoming.Ack n)) =
     (id : List ℕ) × (date : ℕ) × Contains emissions (Outgoing.Ack n id date)
 WasEmitted emissions call = Unit {0}
 
--- What this event hears was emitted at the other end by one of the earlier events. A call that wants
--- for memory hears nothing.
+-- what this event hears was emitted at the other end by one of the earlier events; a call that
+-- wants for memory hears nothing
 abbrev pub HearsEmitted : List Event → Event → Type 0
 HearsEmitted earlier x =
     ¬ IsNoMemory x.entry.call x.entry.answer

@@ -11,7 +11,8 @@ returns-in-Released c now w h legal s =
     let before = c.self.inside in
     let items = c.in-Released.items in
     let known = c.in-Released.ensures in
-    released_goes w h now c.args.seq c.args.id c.args.item items c.take.new.self c.args.self.now _ legal s c.requires.open
+    released_goes w h now c.args.seq c.args.id c.args.item items c.take.new.self c.args.self.now _
+    legal s c.requires.open
     (rw (← c.self.view_is)
     (untaken (is_taken before.received c.args.seq) (Take.Released items)
     (released-late items) known.late.1))

@@ -27,7 +27,8 @@ returns-then-self-clause-follows c w h legal s =
 pub returns-in-Some-clause-follows : goal.returns-in-Some-clause-follows
 returns-in-Some-clause-follows c w h legal s =
     rw c.max.ensures
-    (pull_ack_goes w h c.args.now c.in-Some.ack (drop 1 c.self.inside.owed.acks) c.args.self.now _ legal s
+    (pull_ack_goes w h c.args.now c.in-Some.ack
+    (drop 1 c.self.inside.owed.acks) c.args.self.now _ legal s
     (rw (← c.self.view_is, c.if-self.false, c.if-not-self.false) refl)
     (rw (← c.self.view_is)
     (first_is c.self.inside.owed.acks c.in-Some.ack c.in-Some.ensures.first))
