@@ -1,4 +1,5 @@
--- The laws: what holds in every legal and honest world, whatever is lost, repeated or reordered.
+-- The laws: what holds in every legal history of one end, and in every legal and honest world of two,
+-- whatever is lost, repeated or reordered.
 use Rattle.std.specs.Prelude.{◌≡◌, ◌≢◌, ◌↔◌, ℕ, ◌+◌, ◌-◌, ◌*◌, ◌<◌, ◌≤◌, true, false, Some, List, [], ◌∷◌, ◌++◌, length, slice_get}
 use Rattle.std.specs.List.{All, AllPairs, Any, Contains}
 use Rattle.chan_values.specs.declared.side.Side.{Side}
@@ -16,117 +17,6 @@ use Rattle.channel_core.specs.Numbers.{has_number}
 use Rattle.channel_core.specs.Resending.{marked_due, sent_since_opened}
 use Rattle.channel_core.specs.Since.{FindsRoom, IsAckOf, IsClosing, IsDueOf, IsEmissionOf, IsLoss, IsOpening, IsPause, IsSince, IsStart}
 use Rattle.channel_core.specs.World.{Event, HearsEmitted, IsHonest, IsLegalWorld, history_of}
-
--- a world of no events is legal and honest, and it stays so with each call that gets its answer and
--- hears nothing of the other end but what was emitted there, and with each that wants for memory
-pub record WorldsGoOn : Type 0 where
-  pub start : (w : ℕ) → IsLegalWorld w [] × IsHonest []
-  pub next : (w : ℕ) (world : List Event) (x : Event)
-      → IsLegalWorld w world
-      → IsHonest world
-      → IsAnswered w (history_of x.side world) x.entry.call x.entry.answer
-      → HearsEmitted world x
-      → IsLegalWorld w (world ++ x ∷ []) × IsHonest (world ++ x ∷ [])
-
--- the second list begins with the first
-abbrev pub IsPrefixOf : {X : Type 0} → List X → List X → Type 0
-IsPrefixOf {X} xs ys = (rest : List X) × (xs ++ rest ≡ ys)
-
--- what each end released is a prefix of what the other end put in
-abbrev pub ReleasedIsPrefix : Type 0
-ReleasedIsPrefix =
-    (w : ℕ) (world : List Event) (end : Side)
-    → IsLegalWorld w world
-    → IsHonest world
-    → IsPrefixOf (released_items (history_of end world)) (put_items (history_of (other end) world))
-
--- the numbers of the messages that an end took are pairwise different
-abbrev pub EachNumberIsTakenOnce : Type 0
-EachNumberIsTakenOnce =
-    (w : ℕ) (h : List Entry) → IsLegal w h → AllPairs (λ p q. p.0 ≢ q.0) (taken_items h)
-
--- what an end released are the items that it took below its next number, by number
-abbrev pub ReleasedIsInOrder : Type 0
-ReleasedIsInOrder =
-    (w : ℕ) (h : List Entry)
-    → IsLegal w h
-    → released_items h ≡ items_in_order (taken_items h) 0 (next_in_order h)
-
--- the item that s put in with this number has arrived at r: it is released there, or it is early
--- and waits for another
-pub record HasArrived (s r : List Entry) (n : ℕ) : Type 0 where
-  pub item : Item
-  pub put : slice_get (put_items s) n ≡ Some item
-  pub taken : Contains (taken_items r) (n, item)
-  pub released : n < next_in_order r → slice_get (released_items r) n ≡ Some item
-  pub early : next_in_order r ≤ n → Contains (early_items r) (n, item)
-
--- what one end was told as acknowledged has arrived at the other
-abbrev pub AcknowledgedHasArrived : Type 0
-AcknowledgedHasArrived =
-    (w : ℕ) (world : List Event) (side : Side) (n : ℕ)
-    → IsLegalWorld w world
-    → IsHonest world
-    → has_number (acked_numbers (history_of side world)) n ≡ true
-    → HasArrived (history_of side world) (history_of (other side) world) n
-
--- no message that an end hears is answered as beyond its window, however late it comes
-abbrev pub NothingIsBeyond : Type 0
-NothingIsBeyond =
-    (w : ℕ) (world : List Event)
-    → IsLegalWorld w world
-    → IsHonest world
-    → All (λ x. x.entry.answer ≢ EndAnswer.Heard Heard.Beyond) world
-
--- how much an end with the window w keeps
-pub record IsWithinWindow (w : ℕ) (h : List Entry) : Type 0 where
-  pub unacked : length (unacked_numbers h) ≤ w
-  pub early : length (early_items h) ≤ w - 1
-  pub owed : length (owed_acks w h) ≤ w
-
--- an end keeps no more than its window
-abbrev pub WindowBoundsMessages : Type 0
-WindowBoundsMessages = (w : ℕ) (h : List Entry) → IsLegal w h → IsWithinWindow w h
-
--- what an end emits can be encoded, where each call was one that may be made
-abbrev pub EmissionsCanBeEncoded : Type 0
-EmissionsCanBeEncoded =
-    (w : ℕ) (h : List Entry)
-    → IsLegal w h
-    → All (λ e. IsCallable e.call) h
-    → All CanBeEncoded (emissions h)
-
--- after one exchange without a loss, at the end of which neither end is closed, each end has
--- released all that the other put in
-abbrev pub ExchangeReleasesAll : Type 0
-ExchangeReleasesAll =
-    (w : ℕ) (world xs : List Event) (side : Side)
-    → IsLegalWorld w (world ++ xs)
-    → IsHonest world
-    → IsExchange xs
-    → ((end : Side) → is_closed (history_of end (world ++ xs)) ≡ false)
-    → released_items (history_of (other side) (world ++ xs))
-    ≡ put_items (history_of side (world ++ xs))
-
--- an exchange pulls each end at most 2w + 1 times
-abbrev pub ExchangeIsShort : Type 0
-ExchangeIsShort =
-    (w : ℕ) (world xs : List Event) (side : Side)
-    → IsLegalWorld w (world ++ xs)
-    → IsExchange xs
-    → pull_count side xs ≤ 2 * w + 1
-
--- after each legal world in which neither end is closed there is an exchange without a loss, at the
--- end of which neither end is closed
-abbrev pub ExchangeIsPossible : Type 0
-ExchangeIsPossible =
-    (w : ℕ) (world : List Event)
-    → IsLegalWorld w world
-    → ((end : Side) → is_closed (history_of end world) ≡ false)
-    → (xs : List Event)
-    × IsExchange xs
-    × IsLegalWorld w (world ++ xs)
-    × ((end : Side) → is_closed (history_of end (world ++ xs)) ≡ false)
 
 -- an end is up exactly where a connection was made and not lost since
 abbrev pub UpIsOpenedLast : Type 0
@@ -166,6 +56,10 @@ OwedIsHeardLast =
 abbrev pub EachNumberIsOwedOnce : Type 0
 EachNumberIsOwedOnce = (w : ℕ) (h : List Entry) → AllPairs (λ p q. p.0 ≢ q.0) (owed_acks w h)
 
+-- the second list begins with the first
+abbrev pub IsPrefixOf : {X : Type 0} → List X → List X → Type 0
+IsPrefixOf {X} xs ys = (rest : List X) × (xs ++ rest ≡ ys)
+
 -- to the acknowledgements that were given out and are owed, in this order, more is added at the end
 -- alone
 abbrev pub AcksKeepTheirOrder : Type 0
@@ -175,3 +69,110 @@ AcksKeepTheirOrder =
     → IsPrefixOf
     (emitted_acks h ++ owed_acks w h)
     (emitted_acks (h ++ more) ++ owed_acks w (h ++ more))
+
+-- the numbers of the messages that an end took are pairwise different
+abbrev pub EachNumberIsTakenOnce : Type 0
+EachNumberIsTakenOnce =
+    (w : ℕ) (h : List Entry) → IsLegal w h → AllPairs (λ p q. p.0 ≢ q.0) (taken_items h)
+
+-- what an end released are the items that it took below its next number, by number
+abbrev pub ReleasedIsInOrder : Type 0
+ReleasedIsInOrder =
+    (w : ℕ) (h : List Entry)
+    → IsLegal w h
+    → released_items h ≡ items_in_order (taken_items h) 0 (next_in_order h)
+
+-- how much an end with the window w keeps
+pub record IsWithinWindow (w : ℕ) (h : List Entry) : Type 0 where
+  pub unacked : length (unacked_numbers h) ≤ w
+  pub early : length (early_items h) ≤ w - 1
+  pub owed : length (owed_acks w h) ≤ w
+
+-- an end keeps no more than its window
+abbrev pub WindowBoundsMessages : Type 0
+WindowBoundsMessages = (w : ℕ) (h : List Entry) → IsLegal w h → IsWithinWindow w h
+
+-- what an end emits can be encoded, where each call was one that may be made
+abbrev pub EmissionsCanBeEncoded : Type 0
+EmissionsCanBeEncoded =
+    (w : ℕ) (h : List Entry)
+    → IsLegal w h
+    → All (λ e. IsCallable e.call) h
+    → All CanBeEncoded (emissions h)
+
+-- a world of no events is legal and honest, and it stays so with each call that gets its answer and
+-- hears nothing of the other end but what was emitted there, and with each that wants for memory
+pub record WorldsGoOn : Type 0 where
+  pub start : (w : ℕ) → IsLegalWorld w [] × IsHonest []
+  pub next : (w : ℕ) (world : List Event) (x : Event)
+      → IsLegalWorld w world
+      → IsHonest world
+      → IsAnswered w (history_of x.side world) x.entry.call x.entry.answer
+      → HearsEmitted world x
+      → IsLegalWorld w (world ++ x ∷ []) × IsHonest (world ++ x ∷ [])
+
+-- what each end released is a prefix of what the other end put in
+abbrev pub ReleasedIsPrefix : Type 0
+ReleasedIsPrefix =
+    (w : ℕ) (world : List Event) (end : Side)
+    → IsLegalWorld w world
+    → IsHonest world
+    → IsPrefixOf (released_items (history_of end world)) (put_items (history_of (other end) world))
+
+-- the item that s put in with this number has arrived at r: it is released there, or it is early
+-- and waits for another
+pub record HasArrived (s r : List Entry) (n : ℕ) : Type 0 where
+  pub item : Item
+  pub put : slice_get (put_items s) n ≡ Some item
+  pub taken : Contains (taken_items r) (n, item)
+  pub released : n < next_in_order r → slice_get (released_items r) n ≡ Some item
+  pub early : next_in_order r ≤ n → Contains (early_items r) (n, item)
+
+-- what one end was told as acknowledged has arrived at the other
+abbrev pub AcknowledgedHasArrived : Type 0
+AcknowledgedHasArrived =
+    (w : ℕ) (world : List Event) (side : Side) (n : ℕ)
+    → IsLegalWorld w world
+    → IsHonest world
+    → has_number (acked_numbers (history_of side world)) n ≡ true
+    → HasArrived (history_of side world) (history_of (other side) world) n
+
+-- no message that an end hears is answered as beyond its window, however late it comes
+abbrev pub NothingIsBeyond : Type 0
+NothingIsBeyond =
+    (w : ℕ) (world : List Event)
+    → IsLegalWorld w world
+    → IsHonest world
+    → All (λ x. x.entry.answer ≢ EndAnswer.Heard Heard.Beyond) world
+
+-- after one exchange without a loss, at the end of which neither end is closed, each end has
+-- released all that the other put in
+abbrev pub ExchangeReleasesAll : Type 0
+ExchangeReleasesAll =
+    (w : ℕ) (world xs : List Event) (side : Side)
+    → IsLegalWorld w (world ++ xs)
+    → IsHonest world
+    → IsExchange xs
+    → ((end : Side) → is_closed (history_of end (world ++ xs)) ≡ false)
+    → released_items (history_of (other side) (world ++ xs))
+    ≡ put_items (history_of side (world ++ xs))
+
+-- an exchange pulls each end at most 2w + 1 times
+abbrev pub ExchangeIsShort : Type 0
+ExchangeIsShort =
+    (w : ℕ) (world xs : List Event) (side : Side)
+    → IsLegalWorld w (world ++ xs)
+    → IsExchange xs
+    → pull_count side xs ≤ 2 * w + 1
+
+-- after each legal world in which neither end is closed there is an exchange without a loss, at the
+-- end of which neither end is closed
+abbrev pub ExchangeIsPossible : Type 0
+ExchangeIsPossible =
+    (w : ℕ) (world : List Event)
+    → IsLegalWorld w world
+    → ((end : Side) → is_closed (history_of end world) ≡ false)
+    → (xs : List Event)
+    × IsExchange xs
+    × IsLegalWorld w (world ++ xs)
+    × ((end : Side) → is_closed (history_of end (world ++ xs)) ≡ false)
