@@ -9,7 +9,7 @@ use Rattle.channel_core.specs.declared.call.EndCall.{EndCall}
 use Rattle.channel_core.specs.declared.message.Incoming.TheVariants as Incoming
 use Rattle.channel_core.specs.declared.message.Outgoing.{Outgoing}
 use Rattle.channel_core.specs.Call.{Entry}
-use Rattle.channel_core.specs.Callable.{IsCallable}
+use Rattle.channel_core.specs.Condition.{IsCallable}
 use Rattle.channel_core.specs.Exchange.{incoming_of}
 use Rattle.channel_core.specs.History.{emissions}
 use Rattle.channel_core.specs.World.{Event, history_of}

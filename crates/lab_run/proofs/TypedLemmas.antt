@@ -17,8 +17,8 @@ use Rattle.channel_core.specs.declared.call.EndCall.{EndCall}
 use Rattle.channel_core.specs.declared.message.Incoming.TheVariants as Incoming
 use Rattle.channel_core.specs.declared.message.Outgoing.{Outgoing}
 use Rattle.channel_core.specs.Call.{Entry}
-use Rattle.channel_core.specs.Callable.{IsCallable}
-use Rattle.channel_core.specs.Encodable.{CanBeEncoded}
+use Rattle.channel_core.specs.Condition.{IsCallable}
+use Rattle.channel_core.specs.Condition.{CanBeEncoded}
 use Rattle.channel_core.specs.History.{PutMessage, emissions, message_emitted, message_put, owed_acks, owed_after, owed_with, put_messages}
 use Rattle.channel_core.specs.Legal.{IsAnswered, IsLegal}
 use Rattle.channel_core.specs.Wire.{data_name, message_of, stream_flags}

@@ -9,7 +9,7 @@ use Rattle.channel_core.specs.declared.call.EndAnswer.{EndAnswer}
 use Rattle.channel_core.specs.declared.call.EndCall.{EndCall}
 use Rattle.channel_core.specs.declared.message.Outgoing.{Outgoing}
 use Rattle.channel_core.specs.Call.{Entry}
-use Rattle.channel_core.specs.Encodable.{CanBeEncoded}
+use Rattle.channel_core.specs.Condition.{CanBeEncoded}
 use Rattle.channel_core.specs.History.{emissions, message_emitted}
 use Rattle.channel_core.specs.Legal.{IsNoMemory}
 use Rattle.channel_core.specs.Stands.{EndState, Follows, Stands}

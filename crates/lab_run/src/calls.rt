@@ -8,7 +8,7 @@ ghost use Rattle.channel_core.specs.declared.call.EndCall.TheVariants as EndCall
 ghost use Rattle.channel_core.specs.declared.message.Incoming.TheVariants as Incoming;
 ghost use Rattle.channel_core.specs.declared.message.Outgoing.{Outgoing};
 ghost use Rattle.channel_core.specs.Exchange.{incoming_of};
-ghost use Rattle.channel_core.specs.Stands.{IsNumbered};
+ghost use Rattle.channel_core.specs.Condition.{IsNumbered};
 ghost use Rattle.channel_core.specs.Wire.{encoding};
 ghost use Rattle.lab_run.specs.Ends.{IsCalled, IsSendable};
 ghost use Rattle.lab_run.specs.Steps.{id_of};
