@@ -3,12 +3,15 @@ use Rattle.std.proofs.Common.{◌≡◌, ℕ, ◌+◌, ◌<◌, ◌≤◌, ⊎_e
 use Rattle.std.proofs.Math.Seq.{take-nil}
 use Rattle.lab_script.specs.Lines.{lines_of}
 use Rattle.lab_cmd.specs.declared.status.Status.{Status}
-use Rattle.lab_cmd.specs.Meanings.{IsDue}
+use Rattle.lab_cmd.specs.declared.words.Mode.{Mode}
+use Rattle.lab_cmd.specs.Meanings.{IsDue, IsDueIn}
 use Rattle.lab_cmd.specs.Words.{Begins, IsWords, IsWordsFault}
 use Rattle.lab_cmd.proofs.ScriptLemmas.{IsFirstBad-unique, not_both}
+use Rattle.lab_cmd.proofs.WordLemmas.{IsWords-unique}
 
 -- fewer words begin more words
-take_front : (n m : ℕ) (xs : List (List ℕ)) → n ≤ m → (ys : List (List ℕ)) × (take m xs ≡ take n xs ++ ys)
+take_front : (n m : ℕ) (xs : List (List ℕ)) → n ≤ m
+    → (ys : List (List ℕ)) × (take m xs ≡ take n xs ++ ys)
 take_front zero m xs h = (take m xs, refl)
 take_front (suc n) m [] h = ([], take-nil m)
 take_front (suc n) zero (x ∷ xs) h = absurd (omega (arith, h))
@@ -20,63 +23,75 @@ take_past n [] h = take-nil n
 take_past zero (x ∷ xs) h = absurd (omega (arith, h))
 take_past (suc n) (x ∷ xs) h = ap (λ (t : List (List ℕ)). x ∷ t) (take_past n xs (omega (arith, h)))
 
-Begins-front : (n m : ℕ) (words : List (List ℕ)) → n ≤ m → Begins (take m words) → Begins (take n words)
+Begins-front : (n m : ℕ) (words : List (List ℕ)) → n ≤ m → Begins (take m words)
+    → Begins (take n words)
 Begins-front n m words h b =
     let r = take_front n m words h in (
       r.0 ++ b.0,
       b.1,
-      subst (IsWords b.1) (ap (λ (t : List (List ℕ)). t ++ b.0) r.1 ∙ append_assoc (take n words) r.0 b.0) b.2,
+      subst (IsWords b.1) (ap (λ (t : List (List ℕ)). t ++ b.0) r.1
+          ∙ append_assoc (take n words) r.0 b.0) b.2,
     )
 
 -- a fault is not before another
-earlier : (words : List (List ℕ)) (k m : ℕ) → IsWordsFault words k → IsWordsFault words m → k < m → ⊥
+earlier : (words : List (List ℕ)) (k m : ℕ) → IsWordsFault words k → IsWordsFault words m → k < m
+    → ⊥
 earlier words k m a b less =
     ⊎_elim
     (λ (all : k ≡ length words).
     ⊎_elim
     (λ (end : m ≡ length words). omega (arith, all, end, less))
     (λ (none : ¬ Begins (take (m + 1) words)).
-    none (subst Begins (take_past m words (omega (arith, all, less)) ∙ sym (take_past (m + 1) words (omega (arith, all, less)))) b.begin))
+    none (subst Begins (take_past m words (omega (arith, all, less))
+    ∙ sym (take_past (m + 1) words (omega (arith, all, less)))) b.begin))
     b.stop)
-    (λ (none : ¬ Begins (take (k + 1) words)). none (Begins-front (k + 1) m words (omega (arith, less)) b.begin))
+    (λ (none : ¬ Begins (take (k + 1) words)). none
+    (Begins-front (k + 1) m words (omega (arith, less)) b.begin))
     a.stop
 
 -- words have one place at which they stop being a command line
-pub IsWordsFault-unique : (words : List (List ℕ)) (k m : ℕ) → IsWordsFault words k → IsWordsFault words m → k ≡ m
+pub IsWordsFault-unique : (words : List (List ℕ)) (k m : ℕ) → IsWordsFault words k
+    → IsWordsFault words m → k ≡ m
 IsWordsFault-unique words k m a b =
     let left : ¬ (k < m) = earlier words k m a b in
     let right : ¬ (m < k) = earlier words m k b a in
     omega (arith, left, right)
 
-pub IsDue-unique : (words : List (List ℕ)) (left : List ℕ) (a b : Status) → IsDue words left a → IsDue words left b → a ≡ b
-IsDue-unique words left Status.Ok Status.Ok x y = refl
-IsDue-unique words left Status.Ok (Status.Usage k') x y = absurd (y.none x.0 x.2)
-IsDue-unique words left Status.Ok (Status.Script n') x y = absurd (not_both n' x.1 left x.4 y.3)
-IsDue-unique words left Status.Ok Status.TooLong x y = absurd (omega (arith, x.3, y.2))
-IsDue-unique words left Status.Ok Status.NoMemory x y = absurd y
-IsDue-unique words left Status.Ok Status.ReadFault x y = absurd y
-IsDue-unique words left Status.Ok Status.WriteFault x y = absurd y
-IsDue-unique words left (Status.Usage k) Status.Ok x y = absurd (x.none y.0 y.2)
-IsDue-unique words left (Status.Usage k) (Status.Usage k') x y = ap Status.Usage (IsWordsFault-unique words k k' x y)
-IsDue-unique words left (Status.Usage k) (Status.Script n') x y = absurd (x.none y.0 y.1)
-IsDue-unique words left (Status.Usage k) Status.TooLong x y = absurd (x.none y.0 y.1)
-IsDue-unique words left (Status.Usage k) Status.NoMemory x y = absurd y
-IsDue-unique words left (Status.Usage k) Status.ReadFault x y = absurd y
-IsDue-unique words left (Status.Usage k) Status.WriteFault x y = absurd y
-IsDue-unique words left (Status.Script n) Status.Ok x y = absurd (not_both n y.1 left y.4 x.3)
-IsDue-unique words left (Status.Script n) (Status.Usage k') x y = absurd (y.none x.0 x.1)
-IsDue-unique words left (Status.Script n) (Status.Script n') x y = ap Status.Script (IsFirstBad-unique n n' (lines_of left) x.3 y.3)
-IsDue-unique words left (Status.Script n) Status.TooLong x y = absurd (omega (arith, x.2, y.2))
-IsDue-unique words left (Status.Script n) Status.NoMemory x y = absurd y
-IsDue-unique words left (Status.Script n) Status.ReadFault x y = absurd y
-IsDue-unique words left (Status.Script n) Status.WriteFault x y = absurd y
-IsDue-unique words left Status.TooLong Status.Ok x y = absurd (omega (arith, x.2, y.3))
-IsDue-unique words left Status.TooLong (Status.Usage k') x y = absurd (y.none x.0 x.1)
-IsDue-unique words left Status.TooLong (Status.Script n') x y = absurd (omega (arith, x.2, y.2))
-IsDue-unique words left Status.TooLong Status.TooLong x y = refl
-IsDue-unique words left Status.TooLong Status.NoMemory x y = absurd y
-IsDue-unique words left Status.TooLong Status.ReadFault x y = absurd y
-IsDue-unique words left Status.TooLong Status.WriteFault x y = absurd y
-IsDue-unique words left Status.NoMemory b x y = absurd x
-IsDue-unique words left Status.ReadFault b x y = absurd x
-IsDue-unique words left Status.WriteFault b x y = absurd x
+-- a mode and the bytes that are left call for one status
+IsDueIn-unique : (mode : Mode) (left : List ℕ) (a b : Status)
+    → IsDueIn mode left a → IsDueIn mode left b → a ≡ b
+IsDueIn-unique (Mode.Plain window) left Status.Ok Status.Ok x y = refl
+IsDueIn-unique (Mode.Plain window) left Status.Ok (Status.Script n) x y =
+    absurd (not_both n x.0 left x.2 y.1)
+IsDueIn-unique (Mode.Plain window) left Status.Ok Status.TooLong x y =
+    absurd (omega (arith, x.1, y))
+IsDueIn-unique (Mode.Plain window) left (Status.Script n) Status.Ok x y =
+    absurd (not_both n y.0 left y.2 x.1)
+IsDueIn-unique (Mode.Plain window) left (Status.Script n) (Status.Script m) x y =
+    ap Status.Script (IsFirstBad-unique n m (lines_of left) x.1 y.1)
+IsDueIn-unique (Mode.Plain window) left (Status.Script n) Status.TooLong x y =
+    absurd (omega (arith, x.0, y))
+IsDueIn-unique (Mode.Plain window) left Status.TooLong Status.Ok x y =
+    absurd (omega (arith, x, y.1))
+IsDueIn-unique (Mode.Plain window) left Status.TooLong (Status.Script n) x y =
+    absurd (omega (arith, x, y.0))
+IsDueIn-unique (Mode.Plain window) left Status.TooLong Status.TooLong x y = refl
+IsDueIn-unique (Mode.Plain window) left Status.Ok _ x y = absurd y
+IsDueIn-unique (Mode.Plain window) left (Status.Script n) _ x y = absurd y
+IsDueIn-unique (Mode.Plain window) left Status.TooLong _ x y = absurd y
+IsDueIn-unique (Mode.Plain window) left _ _ x y = absurd x
+
+-- so do the words and the bytes
+by_mode : (words : List (List ℕ)) (left : List ℕ) (a b : Status) (m n : Mode)
+    → IsWords m words → IsWords n words → IsDueIn m left a → IsDueIn n left b → a ≡ b
+by_mode words left a b m n first second x y =
+    let P : Mode → Type 0 = λ mode. IsDueIn mode left a in
+    IsDueIn-unique n left a b (subst P (IsWords-unique words m n first second) x) y
+
+pub IsDue-unique : (words : List (List ℕ)) (left : List ℕ) (a b : Status)
+    → IsDue words left a → IsDue words left b → a ≡ b
+IsDue-unique words left (Status.Usage k) (Status.Usage m) x y =
+    ap Status.Usage (IsWordsFault-unique words k m x y)
+IsDue-unique words left (Status.Usage k) _ x y = absurd (x.none y.0 y.1)
+IsDue-unique words left _ (Status.Usage k) x y = absurd (y.none x.0 x.1)
+IsDue-unique words left a b x y = by_mode words left a b x.0 y.0 x.1 y.1 x.2 y.2

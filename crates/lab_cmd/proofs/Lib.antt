@@ -1,15 +1,5 @@
-pub mod CallLemmas
-pub mod DamageLemmas
-pub mod DueLemmas
-pub mod EmissionLemmas
-pub mod LineLemmas
-pub mod MeaningLemmas
-pub mod PairLemmas
-pub mod PassLemmas
 pub mod Reading
-pub mod RunLemmas
 pub mod ScriptLemmas
-pub mod SettleLemmas
-pub mod StepLemmas
 pub mod WordLemmas
-pub mod WritingLemmas
+pub mod DueLemmas
+pub mod MeaningLemmas

@@ -14,7 +14,8 @@ says_spelling : (command : Command) → IsCommand command → IsScriptLine (spel
 says_spelling command in_range = (command, record { in_range = in_range; spelled = refl })
 
 -- so are those of commands
-pub All-says : (commands : List Command) → All IsCommand commands → All IsScriptLine (map spelling commands)
+pub All-says : (commands : List Command) → All IsCommand commands
+    → All IsScriptLine (map spelling commands)
 All-says commands in_range =
     All-map IsScriptLine spelling commands (λ k d within. says_spelling _ (in_range k d within))
 
@@ -37,22 +38,28 @@ IsFirstBad-after commands n bad rest lines parts in_range place out =
     }
 
 -- the bad line stands behind the good ones
-bad_at : (n : ℕ) (lines : List (List ℕ)) (b : IsFirstBad n lines) → get_or lines (length b.good) [] ≡ b.bad
+bad_at : (n : ℕ) (lines : List (List ℕ)) (b : IsFirstBad n lines)
+    → get_or lines (length b.good) [] ≡ b.bad
 bad_at n lines b =
-    ap (λ (xs : List (List ℕ)). get_or xs (length b.good) []) b.parts ∙ get_or-append_seam b.good b.bad b.rest []
+    ap (λ (xs : List (List ℕ)). get_or xs (length b.good) []) b.parts
+    ∙ get_or-append_seam b.good b.bad b.rest []
 
 bad_within : (n : ℕ) (lines : List (List ℕ)) (b : IsFirstBad n lines) → length b.good < length lines
 bad_within n lines b =
     let long = ap length b.parts ∙ length-append b.good (b.bad ∷ b.rest) in omega (arith, long)
 
 -- an input with a bad line is no script
-pub not_both : (n : ℕ) (commands : List Command) (input : List ℕ) → IsScript commands input → IsFirstBad n (lines_of input) → ⊥
+pub not_both : (n : ℕ) (commands : List Command) (input : List ℕ) → IsScript commands input
+    → IsFirstBad n (lines_of input) → ⊥
 not_both n commands input script b =
-    let all : All IsScriptLine (lines_of input) = subst (All IsScriptLine) (sym script.spelled) (All-says commands script.in_range) in
-    b.out (subst IsScriptLine (bad_at n (lines_of input) b) (all (length b.good) [] (bad_within n (lines_of input) b)))
+    let all : All IsScriptLine (lines_of input) =
+    subst (All IsScriptLine) (sym script.spelled) (All-says commands script.in_range) in
+    b.out (subst IsScriptLine (bad_at n (lines_of input) b)
+    (all (length b.good) [] (bad_within n (lines_of input) b)))
 
 -- a line before the first bad one is good
-earlier_is_good : (n m : ℕ) (lines : List (List ℕ)) (a : IsFirstBad n lines) (b : IsFirstBad m lines)
+earlier_is_good : (n m : ℕ) (lines : List (List ℕ)) (a : IsFirstBad n lines)
+    (b : IsFirstBad m lines)
     → length a.good < length b.good → ⊥
 earlier_is_good n m lines a b less =
     let at : get_or b.good (length a.good) [] ≡ a.bad =
@@ -62,7 +69,8 @@ earlier_is_good n m lines a b less =
     a.out (subst IsScriptLine at (b.before (length a.good) [] less))
 
 -- there is one first bad line
-pub IsFirstBad-unique : (n m : ℕ) (lines : List (List ℕ)) → IsFirstBad n lines → IsFirstBad m lines → n ≡ m
+pub IsFirstBad-unique : (n m : ℕ) (lines : List (List ℕ)) → IsFirstBad n lines → IsFirstBad m lines
+    → n ≡ m
 IsFirstBad-unique n m lines a b =
     let left : ¬ (length a.good < length b.good) = earlier_is_good n m lines a b in
     let right : ¬ (length b.good < length a.good) = earlier_is_good m n lines b a in

@@ -1,9 +1,5 @@
-pub mod Ends
 pub mod Inputs
 pub mod Meanings
-pub mod Printing
-pub mod Report
-pub mod Run
 pub mod Script
 pub mod Statuses
 pub mod Words

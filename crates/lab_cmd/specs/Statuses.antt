@@ -1,27 +1,52 @@
--- The number and the text of a status.
-use Rattle.std.specs.Prelude.{ℕ, List, ◌++◌, codes, decimal}
+-- The number and the text of a status, and the status of each fault.
+use Rattle.std.specs.Prelude.{ℕ, List, ◌++◌, codes, decimal, Result, Ok, Err}
+use Rattle.lab_cmd.specs.declared.input.InputFault.{InputFault}
+use Rattle.lab_cmd.specs.declared.script.ScriptFault.{ScriptFault}
 use Rattle.lab_cmd.specs.declared.status.Status.{Status}
+use Rattle.lab_run.specs.declared.stop.Stop.{Stop}
 
 -- the exit status of the program
-abbrev pub number_of : Status → ℕ
-number_of Status.Ok = 0
-number_of Status.NoMemory = 1
-number_of (Status.Usage k) = 2
-number_of (Status.Script line) = 3
-number_of Status.ReadFault = 4
-number_of Status.WriteFault = 5
-number_of Status.TooLong = 6
+abbrev pub exit_status_of : Status → ℕ
+exit_status_of Status.Ok = 0
+exit_status_of Status.NoMemory = 1
+exit_status_of (Status.Usage k) = 2
+exit_status_of (Status.Script line) = 3
+exit_status_of Status.ReadFault = 4
+exit_status_of Status.WriteFault = 5
+exit_status_of Status.TooLong = 6
 
 -- the name of a status, and its argument behind one space
-abbrev pub name_of : Status → List ℕ
-name_of Status.Ok = codes "Ok"
-name_of Status.NoMemory = codes "NoMemory"
-name_of (Status.Usage k) = codes "Usage " ++ decimal k
-name_of (Status.Script line) = codes "Script " ++ decimal line
-name_of Status.ReadFault = codes "ReadFault"
-name_of Status.WriteFault = codes "WriteFault"
-name_of Status.TooLong = codes "TooLong"
+abbrev pub status_name : Status → List ℕ
+status_name Status.Ok = codes "Ok"
+status_name Status.NoMemory = codes "NoMemory"
+status_name (Status.Usage k) = codes "Usage " ++ decimal k
+status_name (Status.Script line) = codes "Script " ++ decimal line
+status_name Status.ReadFault = codes "ReadFault"
+status_name Status.WriteFault = codes "WriteFault"
+status_name Status.TooLong = codes "TooLong"
 
 -- the line that tells of a status, without its line feed
 abbrev pub status_text : Status → List ℕ
-status_text status = codes "lab: status " ++ decimal (number_of status) ++ codes " " ++ name_of status
+status_text status =
+    codes "lab: status " ++ decimal (exit_status_of status) ++ codes " " ++ status_name status
+
+-- the status of an input that could not be had
+abbrev pub status_of_input : InputFault → Status
+status_of_input InputFault.Read = Status.ReadFault
+status_of_input InputFault.TooLong = Status.TooLong
+status_of_input InputFault.NoMemory = Status.NoMemory
+
+-- the status of an input that is no script
+abbrev pub status_of_script : ScriptFault → Status
+status_of_script (ScriptFault.Line line) = Status.Script line
+status_of_script ScriptFault.NoMemory = Status.NoMemory
+
+-- the status of a run that stopped
+abbrev pub status_of_stop : Stop → Status
+status_of_stop Stop.Write = Status.WriteFault
+status_of_stop Stop.NoMemory = Status.NoMemory
+
+-- the status of a mode that ended so
+abbrev pub status_of : {T : Type 0} → Result T Status → Status
+status_of (Ok done) = Status.Ok
+status_of (Err status) = status

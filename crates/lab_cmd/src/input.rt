@@ -1,8 +1,8 @@
 //! The whole input of the lab, read before anything is written.
 
-ghost use Rattle.std.specs.Prelude.{◌≡◌, ◌+◌, ◌<◌, ◌≤◌, IfOk, IfErr, length};
+ghost use Rattle.std.specs.Prelude.{◌≡◌, ◌≢◌, ◌+◌, ◌≤◌, IfOk, Err, length};
 ghost use Rattle.chan_io.specs.Faults.{Rises};
-ghost use Rattle.lab_cmd.specs.Inputs.{ReadToEnd, ReadSome, IsLonger, GivesAtMost, max_input};
+ghost use Rattle.lab_cmd.specs.Inputs.{ReadToEnd, IsLonger, GivesAtMost, max_input};
 
 use chan_io::{Failed, Source};
 use std::alloc::{AllocError, Global};
@@ -55,6 +55,7 @@ pub fn read_input<S: Source>(alloc: Global, source: &mut S) -> Result<Vec<u8>, I
     ensures failed { result ≡ Err InputFault.Read
         → Rises (S.faults source.old) (S.faults source.new) }
     ensures bounded { GivesAtMost (max_input + 1) (S.input source.old) (S.input source.new) }
+    ensures steady { result ≢ Err InputFault.Read → S.faults source.new ≡ S.faults source.old }
     ensures counted { S.faults source.old ≤ S.faults source.new }
 {
     let mut input = Vec::new(alloc);

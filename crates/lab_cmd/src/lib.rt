@@ -1,23 +1,15 @@
-//! The laboratory of the channel: it runs a script on two ends and reports each step.
+//! The program `lab` as one function: words, input, script, run, status.
 #![tactic(auto)]
 
-mod endpoint;
-mod hearing;
 mod input;
-mod laboratory;
-mod outcome;
-mod pair;
-mod printer;
-mod run;
+mod program;
 mod script;
-mod settling;
 mod status;
-mod stop;
 #[cfg(test)]
 mod tests;
-mod verbs;
 mod words;
 
 pub use input::MAX_INPUT;
-pub use laboratory::lab;
+pub use program::lab;
 pub use status::Status;
+pub use words::Mode;

@@ -1,7 +1,10 @@
-//! How a run of the lab ended.
+//! How the program ended.
 
-ghost use Rattle.std.specs.Prelude.{◌≡◌, Some};
+ghost use Rattle.std.specs.Prelude.{◌≡◌};
 
+use crate::input::InputFault;
+use crate::script::ScriptFault;
+use lab_run::Stop;
 use std::fmt;
 
 /// How a run of the lab ended.
@@ -25,11 +28,11 @@ pub enum Status {
 }
 
 impl Status {
-    ghost use Rattle.lab_cmd.specs.Statuses.{number_of};
+    ghost use Rattle.lab_cmd.specs.Statuses.{exit_status_of};
 
     /// The exit status of the program.
     pub fn number(self) -> u8
-        ensures { result ≡ number_of self }
+        ensures { result ≡ exit_status_of self }
     {
         match self {
             Status::Ok => 0,
@@ -60,6 +63,49 @@ impl fmt::Display for Status {
             Status::ReadFault => write!(f, "ReadFault"),
             Status::WriteFault => write!(f, "WriteFault"),
             Status::TooLong => write!(f, "TooLong"),
+        }
+    }
+}
+
+impl From<InputFault> for Status {
+    ghost use Rattle.std.specs.Prelude.{◌≡◌};
+    ghost use Rattle.lab_cmd.specs.Statuses.{status_of_input};
+
+    ghost from_gives = { λ fault status. status ≡ status_of_input fault };
+
+    fn from(fault: InputFault) -> Status {
+        match fault {
+            InputFault::Read => Status::ReadFault,
+            InputFault::TooLong => Status::TooLong,
+            InputFault::NoMemory => Status::NoMemory,
+        }
+    }
+}
+
+impl From<ScriptFault> for Status {
+    ghost use Rattle.std.specs.Prelude.{◌≡◌};
+    ghost use Rattle.lab_cmd.specs.Statuses.{status_of_script};
+
+    ghost from_gives = { λ fault status. status ≡ status_of_script fault };
+
+    fn from(fault: ScriptFault) -> Status {
+        match fault {
+            ScriptFault::Line(line) => Status::Script(line),
+            ScriptFault::NoMemory => Status::NoMemory,
+        }
+    }
+}
+
+impl From<Stop> for Status {
+    ghost use Rattle.std.specs.Prelude.{◌≡◌};
+    ghost use Rattle.lab_cmd.specs.Statuses.{status_of_stop};
+
+    ghost from_gives = { λ stop status. status ≡ status_of_stop stop };
+
+    fn from(stop: Stop) -> Status {
+        match stop {
+            Stop::Write => Status::WriteFault,
+            Stop::NoMemory => Status::NoMemory,
         }
     }
 }

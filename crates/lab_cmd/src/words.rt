@@ -3,22 +3,41 @@
 ghost use Rattle.std.specs.Prelude.{◌≡◌, ◌≢◌, ℕ, IfOk, IfErr, IfSome, IfNone, decimal};
 ghost use Rattle.lab_cmd.specs.Words.{IsWindow, IsWords, IsWordsFault};
 
-use chan_values::Word;
+use chan_values::{MAX_WINDOW, Word};
 use lab_script::read_number;
 
 /// The window of both ends where no word says another.
 const DEFAULT_WINDOW: u64 = 10_000;
 
-/// The longest window.
-const MAX_WINDOW: u64 = 10_000;
+/// What the words ask the program for.
+#[derive(Clone, Copy, Debug, PartialEq, Eq)]
+pub enum Mode {
+    /// To run the script of the input on two ends with this window.
+    Plain { window: u64 },
+}
 
-/// The window that the words ask for, or the number of words that still begin a command line.
-pub fn read_words(words: &[Word]) -> Result<u64, u64>
-    ensures window { IfOk result (λ window. IsWords window words.now) }
+impl Mode {
+    ghost use Rattle.lab_cmd.specs.Words.{window_of};
+
+    /// The window of both ends.
+    pub fn window(self) -> u64
+        ensures { result ≡ window_of self }
+    {
+        match self {
+            Mode::Plain { window } => window,
+        }
+    }
+}
+
+/// The mode that the words ask for, or the number of words that still begin a command line.
+pub fn read_words(words: &[Word]) -> Result<Mode, u64>
+    ensures mode { IfOk result (λ mode. IsWords mode words.now) }
     ensures fault { IfErr result (λ k. IsWordsFault words.now k) }
 {
     let Some((option, operands)) = words.split_first() else {
-        return Ok(DEFAULT_WINDOW);
+        return Ok(Mode::Plain {
+            window: DEFAULT_WINDOW,
+        });
     };
     if option.as_str() != "--window" {
         return Err(0);
@@ -28,7 +47,7 @@ pub fn read_words(words: &[Word]) -> Result<u64, u64>
     };
     match read_window(number) {
         None => Err(1),
-        Some(window) if more.is_empty() => Ok(window),
+        Some(window) if more.is_empty() => Ok(Mode::Plain { window }),
         Some(_) => Err(2),
     }
 }

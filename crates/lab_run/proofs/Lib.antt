@@ -11,3 +11,4 @@ pub mod TypedLemmas
 pub mod RunLemmas
 pub mod PassLemmas
 pub mod SendableLemmas
+pub mod LawLemmas

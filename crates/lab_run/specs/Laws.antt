@@ -73,3 +73,10 @@ EveryEmissionIsSendable =
     (w : ℕ) (commands : List Command)
     → All IsCommand commands
     → AllSendable (world_of (run w commands))
+
+-- all laws of scripts together
+pub record ScriptLaws : Type 0 where
+  pub faithful : EveryScriptIsFaithful
+  pub settled : EverySettleExchangesAll
+  pub sendable : EveryEmissionIsSendable
+  pub hurt : HurtTellsIncoming

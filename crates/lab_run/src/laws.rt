@@ -2,7 +2,7 @@
 //!
 //! A law is the contract of a function with an empty body, by the definitions of `specs/`.
 
-ghost use Rattle.lab_run.specs.Laws.{EveryEmissionIsSendable, EveryScriptIsFaithful, EverySettleExchangesAll, HurtTellsIncoming};
+ghost use Rattle.lab_run.specs.Laws.{EveryEmissionIsSendable, EveryScriptIsFaithful, EverySettleExchangesAll, HurtTellsIncoming, ScriptLaws};
 
 /// The world of every script is legal and honest, each end takes each number once in it, and what an
 /// end released is a prefix of what the other end's user put in.
@@ -24,4 +24,9 @@ pub fn every_emission_is_sendable()
 /// A hurt reports what the side answers to the damaged bytes.
 pub fn hurt_tells_incoming()
     ensures { HurtTellsIncoming }
+{}
+
+/// All of these together.
+pub fn script_laws()
+    ensures { ScriptLaws }
 {}

@@ -1,4 +1,4 @@
-use Rattle.std.proofs.Common.{Option, subst, sym, arith, rules}
+use Rattle.std.proofs.Common.{Option, refl, subst, sym, arith, rules}
 use Rattle.chan_io.specs.Sources.{Input, Reads}
 use Rattle.lab_cmd.specs.Inputs.{GivesAtMost}
 use Rattle.lab_cmd.proofs.Reading.{ReadSome-none, same_at_end, GivesAtMost-read}
@@ -9,7 +9,7 @@ reading-init g c =
     record {
       read = rw c.new-input.ensures.items (ReadSome-none (g.S.Source.input c.args.source.now));
       short = search rules;
-      counted = omega arith;
+      steady = refl;
     }
 
 pub returns-then-count-eq0-clause-bounded : goal.returns-then-count-eq0-clause-bounded
@@ -18,5 +18,7 @@ returns-then-count-eq0-clause-bounded g c =
     let Bounded : Option Input → Type 0 = GivesAtMost 67108865 (input c.args.source.now) in
     let read : Reads 0 c.read.new.into (input c.reading.source) (input c.read.new.self) =
     rw c.if-count-eq0.true at c.in_ok-count.ensures.reads in
-    subst Bounded (sym (same_at_end c.read.new.into (input c.reading.source) (input c.read.new.self) read))
-    (GivesAtMost-read 67108865 c.reading.input.items (input c.args.source.now) (input c.reading.source) c.reading.invariant.read c.reading.invariant.short)
+    subst Bounded (sym (same_at_end c.read.new.into (input c.reading.source) (input c.read.new.self)
+    read))
+    (GivesAtMost-read 67108865 c.reading.input.items (input c.args.source.now)
+    (input c.reading.source) c.reading.invariant.read c.reading.invariant.short)

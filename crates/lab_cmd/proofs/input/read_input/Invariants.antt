@@ -1,4 +1,4 @@
-use Rattle.std.proofs.Common.{◌≤◌, ◌-◌, length, vec_len}
+use Rattle.std.proofs.Common.{◌≡◌, ◌≤◌, ◌-◌, length, vec_len}
 use Rattle.lab_cmd.specs.Inputs.{ReadSome}
 use Rattle.lab_cmd.proofs.input.read_input.Given as goal
 
@@ -10,7 +10,7 @@ invariant-reading g l =
     record {
       read : ReadSome l.input.items (input l.fn.source) (input l.source);
       short : length l.input.items ≤ 67108865;
-      counted : faults l.fn.source ≤ faults l.source;
+      steady : faults l.source ≡ faults l.fn.source;
     }
 
 abbrev pub decreases-reading : goal.decreases-reading

@@ -6,5 +6,6 @@ pub returns-then-window-eq0-clause-none : goal.returns-then-window-eq0-clause-no
 returns-then-window-eq0-clause-none c = λ n fits spelled.
     let word : c.as_bytes.result.now ≡ c.args.word.now = cc in
     let same : n ≡ c.in_ok-window.window =
-    decimal_injective n c.in_ok-window.window (omega (arith, fits)) (omega arith) (spelled ∙ sym word ∙ sym c.in_ok-window.ensures.found) in
+    decimal_injective n c.in_ok-window.window (omega (arith, fits)) (omega arith)
+    (spelled ∙ sym word ∙ sym c.in_ok-window.ensures.found) in
     omega (arith, same, fits)

@@ -1,0 +1,80 @@
+//! The program `lab`.
+
+ghost use Rattle.std.specs.Prelude.{◌≡◌, ◌+◌, ◌≤◌, ◌⊎◌, ◌↔◌, ℕ, Some};
+ghost use Rattle.chan_io.specs.Faults.{Rises};
+ghost use Rattle.chan_io.specs.Sources.{Input};
+ghost use Rattle.lab_run.specs.Laws.{ScriptLaws};
+ghost use Rattle.lab_cmd.specs.declared.status.Status.{Status};
+ghost use Rattle.lab_cmd.specs.declared.words.Mode.{Mode};
+ghost use Rattle.lab_cmd.specs.Inputs.{GivesAtMost, max_input};
+ghost use Rattle.lab_cmd.specs.Meanings.{IsDue, Means, outside};
+ghost use Rattle.lab_cmd.specs.Statuses.{status_of};
+ghost use Rattle.lab_cmd.specs.Words.{IsMode, IsWords, IsWordsFault};
+
+use crate::input::read_input;
+use crate::script::read_script;
+use crate::status::Status;
+use crate::words::{Mode, read_words};
+use chan_io::{Sink, Source};
+use chan_values::Word;
+use lab_run::run;
+use std::alloc::Global;
+
+/// Reads a script from the source, runs it on a plugin's end and an agent's end, and writes the
+/// report of the run to the sink. Nothing is read or written where the words are no command line,
+/// and nothing is written before the whole script was read and judged.
+///
+/// `means` says what each other status means in the mode that the words ask for. Where no call of the
+/// outside fails, the status that is due comes, or memory was wanted (`complete`). `laws` holds of every
+/// script; with `means` it speaks of the report that was written.
+pub fn lab<S: Source, K: Sink>(
+    alloc: Global,
+    words: &[Word],
+    source: &mut S,
+    sink: &mut K,
+) -> Status
+    ensures usage { (k : ℕ) → (result ≡ Status.Usage k) ↔ IsWordsFault words.now k }
+    ensures untouched { (k : ℕ) → result ≡ Status.Usage k
+        → (source.new ≡ source.old) × (sink.new ≡ sink.old) }
+    ensures means { (mode : Mode) → IsWords mode words.now
+        → let at = outside S.input S.faults K.output K.faults in
+        Means mode result (sink.new ≡ sink.old) (at source.old sink.old) (at source.new sink.new) }
+    ensures complete { (before : Input) (due : Status)
+        → S.input source.old ≡ Some before → IsDue words.now before.left due
+        → ¬ Rises (S.faults source.old) (S.faults source.new)
+        → ¬ Rises (K.faults sink.old) (K.faults sink.new)
+        → (result ≡ due) ⊎ (result ≡ Status.NoMemory) }
+    ensures laws { ScriptLaws }
+    ensures bounded { GivesAtMost (max_input + 1) (S.input source.old) (S.input source.new) }
+    ensures reads_counted { S.faults source.old ≤ S.faults source.new }
+    ensures writes_counted { K.faults sink.old ≤ K.faults sink.new }
+{
+    match read_words(words) {
+        Err(k) => Status::Usage(k),
+        Ok(mode) => match run_mode(alloc, mode, source, sink) {
+            Ok(()) => Status::Ok,
+            Err(status) => status,
+        },
+    }
+}
+
+/// Does what the words ask for. A status is that of the first fault.
+fn run_mode<S: Source, K: Sink>(
+    alloc: Global,
+    mode: Mode,
+    source: &mut S,
+    sink: &mut K,
+) -> Result<(), Status>
+    requires { IsMode mode }
+    ensures means { let at = outside S.input S.faults K.output K.faults in
+        Means mode (status_of result) (sink.new ≡ sink.old)
+        (at source.old sink.old) (at source.new sink.new) }
+    ensures bounded { GivesAtMost (max_input + 1) (S.input source.old) (S.input source.new) }
+    ensures reads_counted { S.faults source.old ≤ S.faults source.new }
+    ensures writes_counted { K.faults sink.old ≤ K.faults sink.new }
+{
+    let input = read_input(alloc, source)?;
+    let commands = read_script(alloc, &input)?;
+    run(alloc, mode.window(), commands, sink)?;
+    Ok(())
+}
