@@ -116,7 +116,8 @@ pub Pieces-join : (messages more : List Message) (bytes middle rest : List ℕ)
 Pieces-join [] more bytes middle rest first second =
     subst (λ bytes. Pieces more bytes rest) (sym first) second
 Pieces-join (m ∷ messages) more bytes middle rest first second =
-    (first.0, first.1, first.2, first.3, Pieces-join messages more first.1 middle rest first.4 second)
+    let others = Pieces-join messages more first.1 middle rest first.4 second in
+    (first.0, first.1, first.2, first.3, others)
 
 -- the rest stands at the end
 pub rest_behind : (messages : List Message) (bytes rest : List ℕ) → Pieces messages bytes rest

@@ -22,8 +22,9 @@ pub struct Captured {
     pub fault: Option<CaptureFault>,
 }
 
-/// Reads a capture in parts, wherever it is cut. It keeps the bytes of the coming piece alone. After
-/// a fault every later part gives the same fault and no messages.
+/// Reads a capture in parts, wherever it is cut. It keeps the bytes of the coming piece alone.
+///
+/// After a fault every later part gives the same fault and no messages.
 #[derive(Drop)]
 pub struct CaptureReader {
     alloc: Global,
