@@ -1,15 +1,13 @@
 -- The lines of the messages that a part of a capture gives.
-use Rattle.std.proofs.Common.{◌≡◌, ℕ, ◌+◌, true, eqb, Option, Some, None, List, [], ◌∷◌, ◌++◌, refl, sym, ap, subst, ◌∙◌, append_assoc, append-nil, arith, ◌<◌, ◌≤◌, length, take, get_or}
+use Rattle.std.proofs.Common.{◌≡◌, ℕ, ◌+◌, true, eqb, Option, List, [], ◌∷◌, ◌++◌, refl, sym, ap, subst, ◌∙◌, append_assoc, append-nil, arith, ◌<◌, ◌≤◌, length, take, get_or}
 use Rattle.std.specs.List.{sum_by}
 use Rattle.std.proofs.lemmas.Bool.{eqb-true}
 use Rattle.std.proofs.lemmas.List.{nil_from_length, take_more}
 use Rattle.std.proofs.lemmas.List.Sums.{sum_by-append, sum_by-cons, sum_by_more}
 use Rattle.chan_io.specs.declared.failed.IoFault.{IoFault}
-use Rattle.chan_io.specs.declared.failed.IoFault.TheVariants as IoFault
 use Rattle.chan_io.specs.Sinks.{Output, Writes, WritesPart}
 use Rattle.agent_message.specs.CaptureReading.{Pending, StandsFor}
 use Rattle.agent_message.specs.Captures.{IsCapture, piece_length}
-use Rattle.agent_message.specs.declared.capture_fault.CaptureFault.{CaptureFault}
 use Rattle.agent_message.specs.declared.message.Message.{Message}
 use Rattle.agent_message.proofs.CaptureLaws.{a_reading, given_first}
 use Rattle.agent_message.proofs.PieceLemmas.{length-Pieces}
@@ -43,6 +41,19 @@ show_lines-more at messages i m within is =
     ∙ show_lines-append at (take i messages) (get_or messages i m ∷ [])
     ∙ ap (λ n. show_lines at (take i messages) ++ (show_line behind n ++ [])) (sym is)
     ∙ ap (λ line. show_lines at (take i messages) ++ line) (append-nil (show_line behind m))
+
+-- put behind the lines so far
+pub next_line : (at next : ℕ) (messages : List Message) (i : ℕ) (m : Message) (lines new : List ℕ)
+    → i < length messages → m ≡ get_or messages i m
+    → lines ≡ show_lines at (take i messages)
+    → next ≡ at + sum_by piece_length (take i messages)
+    → new ≡ lines ++ show_line next m
+    → new ≡ show_lines at (take (i + 1) messages)
+next_line at next messages i m lines new within is so_far place put =
+    put
+    ∙ ap (λ text. text ++ show_line next m) so_far
+    ∙ ap (λ n. show_lines at (take i messages) ++ show_line n m) place
+    ∙ sym (show_lines-more at messages i m within is)
 
 -- and its length
 pub place-more : (messages : List Message) (i : ℕ) (m : Message)

@@ -6,8 +6,8 @@ use Rattle.uuid.specs.Text.{hyphenated_text, lower}
 use Rattle.agent_message.specs.Captures.{piece_length}
 use Rattle.agent_message.specs.declared.message.Message.{Message}
 
--- the line of a message: where its piece begins, its name, number, flags and payload type, the length of
--- its payload, and its id
+-- the line of a message: where its piece begins, its name, number, flags, payload type, the length
+-- of its payload, and its id
 abbrev pub show_line : ℕ → Message → List ℕ
 show_line at m =
     join_with_byte 32

@@ -1,14 +1,12 @@
 -- What showing a capture writes and answers.
-use Rattle.std.specs.Prelude.{◌≡◌, ℕ, Option, Some, None, Result, Ok, Err, List}
+use Rattle.std.specs.Prelude.{ℕ, Option, Some, None, Result, Ok, Err, List}
 use Rattle.chan_io.specs.Sinks.{Output, Writes, WritesPart}
 use Rattle.chan_io.specs.declared.failed.IoFault.{IoFault}
-use Rattle.chan_io.specs.declared.failed.IoFault.TheVariants as IoFault
 use Rattle.agent_message.specs.Captures.{IsCapture}
 use Rattle.agent_message.specs.declared.capture_fault.CaptureFault.{CaptureFault}
 use Rattle.agent_message.specs.declared.message.Message.{Message}
 use Rattle.lab_show.specs.Lines.{show_lines}
 use Rattle.lab_show.specs.declared.stop.ShowStop.{ShowStop}
-use Rattle.lab_show.specs.declared.stop.ShowStop.TheVariants as ShowStop
 
 -- the capture has this fault or none, and the lines of all its messages were written
 abbrev pub Shows : List ℕ → Option CaptureFault → Option Output → Option Output → Type 0

@@ -24,7 +24,7 @@ const PART: usize = 16_384;
 /// What a piece of a capture has beside its payload: its length in 4 bytes, and a header of 120.
 const PIECE_HEADER: u64 = 124;
 
-/// Writes a line for each message of a capture, and then tells the fault of the capture if it has one.
+/// Writes a line for each message of a capture, and tells the fault of the capture if it has one.
 ///
 /// Where no write fails, the end that is due comes, or memory was wanted (`complete`).
 pub fn show<K: Sink>(alloc: Global, capture: &[u8], sink: &mut K) -> Result<(), ShowStop>
@@ -55,8 +55,8 @@ pub fn show<K: Sink>(alloc: Global, capture: &[u8], sink: &mut K) -> Result<(), 
     }
 }
 
-/// Writes the lines of messages whose pieces stand one behind another from a place on, and tells where
-/// the next piece begins.
+/// Writes the lines of messages whose pieces stand one behind another from a place on, and tells
+/// where the next piece begins.
 fn write_lines<K: Sink>(
     alloc: Global,
     at: u64,

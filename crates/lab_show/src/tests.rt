@@ -5,7 +5,8 @@ use chan_values::Bytes;
 use std::alloc::{AllocError, Global};
 use std::test::Fail;
 
-/// The piece of input_stream_data, number 0, id 1, "abc" as Output. FIPS 180-4 has the SHA-256 of "abc".
+/// The piece of input_stream_data, number 0, id 1, "abc" as Output. FIPS 180-4 has the SHA-256 of
+/// "abc".
 const PIECE: [u8; 127] = *b"\x00\x00\x00\x7b\x00\x00\x00\x74input_stream_data               \
     \x00\x00\x00\x01\x00\x00\x00\x00\x00\x00\x00\x01\x00\x00\x00\x00\x00\x00\x00\x00\
     \x00\x00\x00\x00\x00\x00\x00\x01\
@@ -95,9 +96,10 @@ fn a_line_has_the_fields_of_its_message(rt: HostRuntime) -> Result<(), Fail> {
     capture.extend_from_slice(&capture_piece(rt.alloc(), &message)?)?;
     let mut sink = FaultySink::new(rt.alloc(), Vec::new(rt.alloc()));
     assert_eq!(rt; show(rt.alloc(), &capture, &mut sink), Ok(()));
-    let line = b"127 channel_closed -9223372036854775808 18446744073709551615 4294967295 0 \
+    let lines = b"0 input_stream_data 0 1 1 3 00000000-0000-0000-0000-000000000001\n\
+        127 channel_closed -9223372036854775808 18446744073709551615 4294967295 0 \
         0a1b2c3d-4e5f-6071-8293-a4b5c6d7e8f9\n";
-    assert_eq!(rt; &sink.taken()[LINE.len()..], line.as_slice());
+    assert_eq!(rt; sink.taken(), lines.as_slice());
     Ok(())
 }
 

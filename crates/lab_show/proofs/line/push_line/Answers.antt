@@ -1,4 +1,4 @@
-use Rattle.std.proofs.Common.{◌≡◌, ◌++◌, decimal, FitsSigned, rules, ap, length, refl, ◌∙◌}
+use Rattle.std.proofs.Common.{◌≡◌, ◌++◌, decimal, rules, ap, length, refl, ◌∙◌}
 use Rattle.std.specs.Fmt.{signed_decimal}
 use Rattle.lab_show.proofs.LineLemmas.{line_text, put_behind}
 use Rattle.lab_show.proofs.line.push_line.Goals as goal

@@ -1,20 +1,16 @@
-use Rattle.std.proofs.Common.{◌≡◌, ℕ, ◌+◌, ◌<◌, ◌≤◌, ◌^◌, List, [], ◌++◌, None, Some, Option, Err, length, take, drop, inl, inr, refl, sym, ap, subst, ◌∙◌, append_assoc, append-nil, arith, length-append, length-take}
+use Rattle.std.proofs.Common.{◌≡◌, ℕ, ◌+◌, List, [], ◌++◌, None, Some, Err, length, inl, sym, ap, subst, ◌∙◌, append_assoc, append-nil, arith, length-append}
 use Rattle.std.specs.List.{sum_by}
-use Rattle.std.proofs.lemmas.Bool.{eqb-true}
-use Rattle.std.proofs.lemmas.List.{nil_from_length, take-append-drop}
+use Rattle.std.proofs.lemmas.List.{take-append-drop}
 use Rattle.std.proofs.lemmas.List.Sums.{sum_by-append}
 use Rattle.std.proofs.lemmas.Result.{err_from_is_err_and}
 use Rattle.chan_io.specs.Faults.{Rises}
 use Rattle.chan_io.specs.Sinks.{Writes, WritesPart}
 use Rattle.chan_io.specs.declared.failed.IoFault.TheVariants as IoFault
 use Rattle.agent_message.specs.Captures.{IsCapture, piece_length}
-use Rattle.agent_message.specs.CaptureReading.{StandsFor}
-use Rattle.agent_message.specs.declared.capture_fault.CaptureFault.{CaptureFault}
 use Rattle.agent_message.specs.declared.message.Message.{Message}
 use Rattle.agent_message.proofs.CaptureLaws.{one_reading}
 use Rattle.lab_show.specs.Lines.{show_lines}
-use Rattle.lab_show.specs.Listings.{ShowsPart, due, stop_of}
-use Rattle.lab_show.specs.declared.stop.ShowStop.TheVariants as ShowStop
+use Rattle.lab_show.specs.Listings.{due}
 use Rattle.lab_show.proofs.ListingLemmas.{Failed-from_stop, all_taken, part_of_all, part_of_more, place_fits, show_lines-at}
 use Rattle.lab_show.proofs.WritingLemmas.{Writes-append, WritesPart-written}
 use Rattle.lab_show.proofs.listing.show.Goals as goal

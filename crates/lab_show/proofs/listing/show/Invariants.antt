@@ -1,6 +1,6 @@
 use Rattle.std.proofs.Common.{◌≡◌, ℕ, List, ◌++◌, length}
 use Rattle.std.specs.List.{sum_by}
-use Rattle.chan_io.specs.Sinks.{Output, Writes}
+use Rattle.chan_io.specs.Sinks.{Writes}
 use Rattle.agent_message.specs.Captures.{piece_length}
 use Rattle.agent_message.specs.CaptureReading.{StandsFor}
 use Rattle.agent_message.specs.declared.message.Message.{Message}

@@ -1,10 +1,8 @@
-use Rattle.std.proofs.Common.{◌≡◌, ◌+◌, ◌++◌, take, length, sym, ap, ◌∙◌, arith}
-use Rattle.std.specs.List.{sum_by}
+use Rattle.std.proofs.Common.{length, ap, arith}
 use Rattle.std.proofs.lemmas.List.Sums.{sum_by_more_le}
 use Rattle.std.proofs.lemmas.Result.{err_from_is_err_and}
 use Rattle.agent_message.specs.Captures.{piece_length}
-use Rattle.lab_show.specs.Lines.{show_line, show_lines}
-use Rattle.lab_show.proofs.ListingLemmas.{place-more, show_lines-more}
+use Rattle.lab_show.proofs.ListingLemmas.{next_line, place-more}
 use Rattle.lab_show.proofs.WritingLemmas.{WritesPart-nothing}
 use Rattle.lab_show.proofs.listing.write_lines.Goals as goal
 
@@ -24,13 +22,12 @@ overflow_add-next-in-loop-message g c =
 pub loop-message-preserved : goal.loop-message-preserved
 loop-message-preserved g c =
     let a = c.loop-message.invariant in
-    let place = place-more c.args.messages.now c.loop-message.message-index c.message-item.result
-    c.loop-message-test.true c.message-item.is in (
+    let i = c.loop-message.message-index in
+    let m = c.message-item.result in
+    let place =
+    place-more c.args.messages.now i m c.loop-message-test.true c.message-item.is in (
       omega (arith, c.len.ensures),
-      c.in_ok-push_line.ensures
-          ∙ ap (λ lines. lines ++ show_line c.loop-message.next c.message-item.result) a.1
-          ∙ ap (λ n. show_lines c.args.at (take c.loop-message.message-index c.args.messages.now) ++
-          show_line n c.message-item.result) a.0
-          ∙ sym (show_lines-more c.args.at c.args.messages.now c.loop-message.message-index
-          c.message-item.result c.loop-message-test.true c.message-item.is),
+      next_line c.args.at c.loop-message.next c.args.messages.now i m c.loop-message.lines.items
+          c.push_line.new.out.items c.loop-message-test.true c.message-item.is a.1 a.0
+          c.in_ok-push_line.ensures,
     )
