@@ -56,7 +56,7 @@ impl FrameReader {
     }
 
     /// Takes a piece of the stream, and gives the frames that are whole with it. An `Err` changes nothing.
-    #[tactic(auto, using(crate::proofs::Absorbing::absorbed_reading))]
+    #[tactic(auto, using(crate::proofs::DataLemmas::absorbed_reading))]
     pub fn feed(&mut self, bytes: &[u8]) -> Result<Framed, NoMemory>
         ensures pending { OnOk result (self.new ≡ (read_on self.old bytes.now).pending) }
         ensures frames { IfOk result (λ f. f.frames ≡ (read_on self.old bytes.now).frames) }

@@ -11,7 +11,8 @@ use Rattle.smux_acts.proofs.Rows as rows
 use Rattle.smux_acts.proofs.Rows.{Row, row}
 use Rattle.smux_store.specs.Kept.{holding, untaken, IsOrderly, WasPassed}
 use Rattle.smux_store.proofs.ActLemmas.{began, end_touches, end_view, ended_touches, ended_view, opens_here, quiet_came, ready_touches, ready_view, refused_quiet, shut_touches, shut_view, took_touches, took_view, wrote_quiet}
-use Rattle.smux_store.proofs.ViewLemmas.{Begins, IsQuiet, IsTaken, IsTold, Touches, View, alike, begin_holding, begin_living, begin_orderly, begin_streams, called_test, drop_front, is_live, one, quiet_holding, quiet_living, quiet_orderly, touch_holding, touch_living, touch_orderly, view, waiting}
+use Rattle.smux_store.proofs.ViewLemmas.{Begins, IsQuiet, Touches, View, alike, begin_holding, begin_living, begin_streams, drop_front, is_live, one, quiet_holding, quiet_living, touch_holding, touch_living, view, waiting}
+use Rattle.smux_store.proofs.KindLemmas.{IsTaken, IsTold, begin_orderly, called_test, quiet_orderly, touch_orderly}
 
 -- how many streams an act opens
 abbrev pub count_in : Option ℕ → ℕ

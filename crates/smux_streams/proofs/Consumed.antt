@@ -23,7 +23,8 @@ use Rattle.smux_streams.specs.Laws.{FramesAreThoseConsumed}
 use Rattle.smux_streams.specs.Legal.{IsAnswered, IsLegal, Run, one_more, run, run_by, waits}
 use Rattle.smux_streams.proofs.KeepLemmas.{seen_push}
 use Rattle.smux_streams.proofs.FeedLemmas.{run_seen}
-use Rattle.smux_streams.proofs.Bytewise.{come_reads, map_append}
+use Rattle.smux_streams.proofs.Readers.{come_reads}
+use Rattle.smux_streams.proofs.ValidLemmas.{map_append}
 use Rattle.smux_streams.proofs.Pairs.{consumed_push, legal_push}
 
 -- what was seen is what is read of these bytes, unless a fault was shown after them

@@ -1,4 +1,4 @@
-use Rattle.smux_streams.proofs.Lone.{bounds_law}
+use Rattle.smux_streams.proofs.Bounds.{bounds_law}
 use Rattle.smux_streams.proofs.laws.bounds_hold.Goals as goal
 
 pub returns : goal.returns
