@@ -1,0 +1,7 @@
+use Rattle.std.proofs.Common.{◌≡◌, ℕ, ◌<◌, ◌≤◌, None}
+use Rattle.slot_ring.specs.Ring.{value_with}
+use Rattle.slot_ring.proofs.ring.SlotRing.next_taken.Given as goal
+
+abbrev pub invariant-loop-number : goal.invariant-loop-number
+invariant-loop-number g l =
+    (n : ℕ) → l.from ≤ n → n < l.number → value_with l.self.held n ≡ None
