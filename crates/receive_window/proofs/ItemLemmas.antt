@@ -1,40 +1,17 @@
 -- Items by number.
-use Rattle.std.proofs.Common.{◌≡◌, ◌≢◌, ℕ, ◌+◌, ◌-◌, ◌<◌, ◌≤◌, zero, suc, Bool, true, false, cond, Option, Some, None, is_some, List, [], ◌∷◌, ◌++◌, ⊎_elim, refl, sym, ap, subst, ◌∙◌, arith, length, eqb, ltb, append_assoc}
+use Rattle.std.proofs.Common.{◌≡◌, ◌≢◌, ℕ, ◌+◌, ◌-◌, ◌^◌, ◌<◌, ◌≤◌, zero, suc, true, false, cond, Option, Some, None, Bor, option_copied, is_some, List, [], ◌∷◌, ◌++◌, ⊎_elim, refl, sym, ap, subst, ◌∙◌, arith, length, eqb, leb, ltb}
 use Rattle.std.specs.Option.{IsSome}
 use Rattle.std.specs.Bool.{IsTrue}
-use Rattle.std.specs.List.{filter_map, cons_option, range_with_len, All, AllByRecursion, AllPairs}
-use Rattle.std.specs.List.Sorted.{IsStrictlySortedBy}
-use Rattle.std.specs.Map.{lookup, keys_of}
-use Rattle.std.specs.Ordering.{nat_cmp}
-use Rattle.std.specs.BTreeMap.{is_at}
-use Rattle.std.specs.declared.cmp.Ordering.TheVariants.{Less, Equal, Greater}
-use Rattle.std.proofs.lemmas.Bool.{cases_Bool, cases_eq, cases_lt, eq-eqb, ne_eqb, lt-ltb, le-ltb, ltb-true, both_ways, or_from}
-use Rattle.std.proofs.lemmas.List.Elements.{All-cons, All-nil, filter_map-append}
-use Rattle.std.proofs.lemmas.List.Kept.{AllPairs-cons}
-use Rattle.std.proofs.lemmas.Map.Keys.{sorted_head, sorted_tail}
+use Rattle.std.specs.List.{filter_map, cons_option, range_with_len, All, AllPairs}
+use Rattle.std.proofs.lemmas.Bool.{both_ways, cases_eq, cases_lt, eq-eqb, eqb-true, le-leb, le-ltb, lt-leb, lt-ltb, ne_eqb, or_from}
+use Rattle.std.proofs.lemmas.List.Elements.{All-cons, All-head, All-nil, All-tail, filter_map-append}
+use Rattle.std.proofs.lemmas.Map.Entries.{lookup-filter-keys}
+use Rattle.slot_ring.specs.Ring.{IsRing, Ring, without}
 use Rattle.chan_values.specs.declared.item.Item.{Item}
 use Rattle.receive_window.specs.declared.take.Take.{Take}
 use Rattle.receive_window.specs.declared.take.Take.TheVariants as takes
+use Rattle.receive_window.specs.Inside.{from_number}
 use Rattle.receive_window.specs.Window.{AreDifferent, WindowState, Releases, item_with, items_in_order, is_taken}
-
--- a key is found exactly where it is the number
-pub is_at-same : (n k : ℕ) → is_at (nat_cmp n) k ≡ eqb n k
-is_at-same n k =
-    ⊎_elim
-    (λ (equal : n ≡ k). let below : ltb n k ≡ false = le-ltb n k (omega arith) in
-    rw (below, eq-eqb n k equal) refl)
-    (λ (differ : n ≡ k → ⊥).
-    ⊎_elim
-    (λ (less : n < k). rw (lt-ltb n k less, ne_eqb n k differ) refl)
-    (λ (more : k ≤ n). rw (le-ltb n k more, ne_eqb n k differ) refl)
-    (cases_lt n k))
-    (cases_eq n k)
-
--- a look-up in a map is one by number
-pub lookup-item_with : (es : List (ℕ × Item)) (n : ℕ)
-    → lookup (is_at (nat_cmp n)) es ≡ item_with es n
-lookup-item_with [] n = refl
-lookup-item_with (e ∷ es) n = rw (is_at-same n e.0, lookup-item_with es n) refl
 
 -- one item more, at the front
 pub item_with-cons : (es : List (ℕ × Item)) (n k : ℕ) (item : Item)
@@ -186,94 +163,113 @@ Releases-next_at w e n to item items early new here above grows list there missi
     (λ k low. there k (omega arith)) missing (λ k beyond. rest k (λ low. beyond (omega arith)))
     (λ k low. gone k (omega arith)) different)
 
--- equal or greater isn't less
-neither : (b : Bool) → cond b Equal Greater ≡ Less → ⊥
-neither true is = cc
-neither false is = cc
+-- numbers in order between two bounds are at most as many as those between
+pub length-between : (es : List (ℕ × Item)) (low high : ℕ)
+    → AllPairs (λ (e f : ℕ × Item). e.0 < f.0) es
+    → All (λ (e : ℕ × Item). (low ≤ e.0) × (e.0 < high)) es
+    → length es ≤ high - low
+length-between [] low high ascending all = omega arith
+length-between (e ∷ es) low high ascending all =
+    let first = All-head (λ (f : ℕ × Item). (low ≤ f.0) × (f.0 < high)) e es all in
+    let later = All-tail (λ (f : ℕ × Item). (low ≤ f.0) × (f.0 < high)) e es all in
+    let rest = length-between es (e.0 + 1) high
+    (λ i j d below within. ascending (suc i) (suc j) d (omega arith) (omega arith))
+    (λ k d below. (
+      let more = ascending 0 (suc k) d (omega arith) (omega arith) in omega arith,
+      (later k d below).1,
+    )) in
+    omega (arith, first.0, first.1, rest)
 
--- what compares as less is less
-less_is : (a b : ℕ) → nat_cmp a b ≡ Less → a < b
-less_is a b is = ⊎_elim
-    (λ (below : ltb a b ≡ true). ltb-true a b below)
-    (λ (above : ltb a b ≡ false). let other : cond (eqb a b) Equal Greater
-    ≡ Less = rw above at is in absurd (neither (eqb a b) other))
-    (cases_Bool (ltb a b))
-
--- numbers in order between two bounds are fewer than those between
-pub length-between : (ks : List ℕ) (low high : ℕ)
-    → IsStrictlySortedBy nat_cmp ks
-    → AllByRecursion (λ k. (low < k) × (k < high)) ks
-    → length ks ≤ high - low - 1
-length-between [] low high ordered all = omega arith
-length-between (k ∷ ks) low high ordered all =
-    let rest = length-between ks k high (sorted_tail nat_cmp k ks ordered)
-    (later ks (sorted_head nat_cmp k ks ordered) all.1) in
-    let first = all.0 in omega (arith, first.0, first.1, rest)
-  where
-    later : (js : List ℕ)
-        → AllByRecursion (λ j. nat_cmp k j ≡ Less) js
-        → AllByRecursion (λ j. (low < j) × (j < high)) js
-        → AllByRecursion (λ j. (k < j) × (j < high)) js
-    later [] less all = tt
-    later (j ∷ js) less all = ((less_is k j less.0, all.0.1), later js less.1 all.1)
-
--- items in the order of their numbers have different numbers
+-- numbers in order differ
 pub numbers_differ : (es : List (ℕ × Item))
-    → IsStrictlySortedBy nat_cmp (keys_of es)
-    → AllPairs (λ (p q : ℕ × Item). p.0 ≢ q.0) es
-numbers_differ [] ordered = λ i j d below inside. absurd (omega arith)
-numbers_differ (e ∷ es) ordered =
-    AllPairs-cons (λ (p q : ℕ × Item). p.0 ≢ q.0) e es
-    (later es (sorted_head nat_cmp e.0 (keys_of es) ordered))
-    (numbers_differ es (sorted_tail nat_cmp e.0 (keys_of es) ordered))
-  where
-    later : (fs : List (ℕ × Item))
-        → AllByRecursion (λ k. nat_cmp e.0 k ≡ Less) (keys_of fs)
-        → All (λ (q : ℕ × Item). e.0 ≢ q.0) fs
-    later [] less = All-nil (λ (q : ℕ × Item). e.0 ≢ q.0)
-    later (f ∷ fs) less =
-        All-cons (λ (q : ℕ × Item). e.0 ≢ q.0) f fs
-        (λ same. let below = less_is e.0 f.0 less.0 in omega arith)
-        (later fs less.1)
+    → AllPairs (λ (e f : ℕ × Item). e.0 < f.0) es
+    → AreDifferent es
+numbers_differ es ascending =
+    λ i j d below within same. let less = ascending i j d below within in omega arith
 
--- each key has an item
-keys-present : (es front : List (ℕ × Item)) (P : ℕ → Type 0)
-    → ((k : ℕ) → IsSome (item_with (front ++ es) k) → P k)
-    → AllByRecursion P (keys_of es)
-keys-present [] front P each = tt
-keys-present (e ∷ es) front P each = (
-  each e.0 (found front),
-  keys-present es (front ++ e ∷ []) P
-      (subst (λ (l : List (ℕ × Item)). (k : ℕ) → IsSome (item_with l k) → P k)
-      (sym (append_assoc front (e ∷ []) es)) each),
-)
-  where
-    found : (front : List (ℕ × Item)) → IsSome (item_with (front ++ e ∷ es) e.0)
-    found [] = rw (eq-eqb e.0 e.0 refl) refl
-    found (f ∷ front) = elim (eqb e.0 f.0) as
-        (λ b. IsSome
-        (cond b (Some f.1) (item_with (front ++ e ∷ es) e.0))) [ true ↦ refl | false ↦ found front ]
-
--- what holds of each number that has an item holds of each key
-pub keys-all : (es : List (ℕ × Item)) (P : ℕ → Type 0)
+-- what holds of each number that has an item holds of the number of each item
+pub numbers-all : (P : ℕ → Type 0) (es : List (ℕ × Item))
     → ((k : ℕ) → IsSome (item_with es k) → P k)
-    → AllByRecursion P (keys_of es)
-keys-all es P each = keys-present es [] P each
+    → All (λ (e : ℕ × Item). P e.0) es
+numbers-all P [] each = All-nil (λ (e : ℕ × Item). P e.0)
+numbers-all P (e ∷ es) each =
+    All-cons (λ (f : ℕ × Item). P f.0) e es
+    (each e.0 (rw (eq-eqb e.0 e.0 refl) refl))
+    (numbers-all P es (λ k some. each k (⊎_elim
+    (λ (same : k ≡ e.0). rw (eq-eqb k e.0 same) refl)
+    (λ (differ : k ≡ e.0 → ⊥). rw (ne_eqb k e.0 differ) some)
+    (cases_eq k e.0))))
+
+-- and what holds of the number of each item, of each number that has one
+pub numbers-found : (P : ℕ → Type 0) (es : List (ℕ × Item)) (k : ℕ)
+    → All (λ (e : ℕ × Item). P e.0) es
+    → IsSome (item_with es k)
+    → P k
+numbers-found P [] k all some = absurd (both_ways false refl some)
+numbers-found P (e ∷ es) k all some =
+    ⊎_elim
+    (λ (same : k ≡ e.0). subst P (sym same) (All-head (λ (f : ℕ × Item). P f.0) e es all))
+    (λ (differ : k ≡ e.0 → ⊥).
+    numbers-found P es k (All-tail (λ (f : ℕ × Item). P f.0) e es all)
+    (rw (ne_eqb k e.0 differ) at some))
+    (cases_eq k e.0)
+
+-- an item that is there is one
+pub not_some : (o : Option Item) → o ≡ None → IsSome o → ⊥
+not_some o none some = both_ways (is_some o) (ap is_some none) some
+
+-- the items from a number on have those numbers
+pub item_with-from : (n k : ℕ) (es : List (ℕ × Item))
+    → n ≤ k
+    → item_with (from_number n es) k ≡ item_with es k
+item_with-from n k es from =
+    lookup-filter-keys (eqb k) (leb n) true
+    (λ j is. let same : k ≡ j = eqb-true k j is in le-leb n j (omega arith)) es
+
+-- and no others
+pub item_with-before : (n k : ℕ) (es : List (ℕ × Item))
+    → k < n
+    → item_with (from_number n es) k ≡ None
+item_with-before n k es before =
+    lookup-filter-keys (eqb k) (leb n) false
+    (λ j is. let same : k ≡ j = eqb-true k j is in lt-leb n j (omega arith)) es
+
+-- without the first of them they are those from the next number on
+pub from_number-next : (n : ℕ) (es : List (ℕ × Item))
+    → without (from_number n es) n ≡ from_number (n + 1) es
+from_number-next n [] = refl
+from_number-next n (e ∷ es) =
+    ⊎_elim
+    (λ (below : e.0 < n).
+    rw (lt-leb n e.0 below, lt-leb (n + 1) e.0 (omega arith)) (from_number-next n es))
+    (λ (from : n ≤ e.0).
+    ⊎_elim
+    (λ (same : e.0 ≡ n).
+    rw (le-leb n e.0 from, lt-leb (n + 1) e.0 (omega arith), eq-eqb e.0 n same)
+    (from_number-next n es))
+    (λ (differ : e.0 ≡ n → ⊥).
+    rw (le-leb n e.0 from, le-leb (n + 1) e.0 (omega arith), ne_eqb e.0 n differ)
+    (ap (λ (fs : List (ℕ × Item)). e ∷ fs) (from_number-next n es)))
+    (cases_eq e.0 n))
+    (cases_lt e.0 n)
+
+-- from the least number on they are all
+pub from_number-all : (n : ℕ) (es : List (ℕ × Item))
+    → All (λ (e : ℕ × Item). n ≤ e.0) es
+    → from_number n es ≡ es
+from_number-all n [] all = refl
+from_number-all n (e ∷ es) all =
+    rw (le-leb n e.0 (All-head (λ (f : ℕ × Item). n ≤ f.0) e es all))
+    (ap (λ (fs : List (ℕ × Item)). e ∷ fs)
+    (from_number-all n es (All-tail (λ (f : ℕ × Item). n ≤ f.0) e es all)))
 
 -- a number that is neither below the next one nor early
-pub fresh : (w e n : ℕ) (es : List (ℕ × Item)) (found : Bool)
+pub fresh : (w e n : ℕ) (es : List (ℕ × Item))
     → e ≤ n
-    → found ≡ is_some (lookup (is_at (nat_cmp n)) es)
-    → found ≡ false
-    → (item_with es n ≡ None) ×
-    (is_taken (record { window = w; expected = e; early = es }) n ≡ false)
-fresh w e n es found above is none =
-    let gap : is_some (item_with es n) ≡ false = ap is_some (sym (lookup-item_with es n)) ∙ sym is
-    ∙ none in (
-      absent (item_with es n) (λ some. both_ways (is_some (item_with es n)) gap some),
-      or_from
-          (ltb n e) (is_some (item_with es n)) (le-ltb n e above) gap,
-    )
+    → item_with es n ≡ None
+    → is_taken (record { window = w; expected = e; early = es }) n ≡ false
+fresh w e n es above none =
+    or_from (ltb n e) (is_some (item_with es n)) (le-ltb n e above) (ap is_some none)
 
 -- an answer that isn't Late is given for a number that wasn't taken
 pub not_late : (state : WindowState) (n : ℕ) (answer : Take)
@@ -295,3 +291,46 @@ no_memory-not_late item is = cc
 -- a late message isn't beyond
 pub late-not_beyond : takes.Late ≡ takes.Beyond → ⊥
 late-not_beyond is = cc
+
+-- what a reference finds, where it finds something, and where it doesn't
+pub copied-some : (o : Option (Bor Item)) → is_some o ≡ true → IsSome (option_copied o)
+copied-some None some = absurd (both_ways false refl some)
+copied-some (Some item) some = refl
+
+pub copied-none : (o : Option (Bor Item)) → is_some o ≡ false → option_copied o ≡ None
+copied-none None none = refl
+copied-none (Some item) none = absurd (both_ways true none refl)
+
+-- where the next number has no item the numbers of the items are above it
+pub above_next : (early : Ring Item)
+    → IsRing early
+    → item_with early.held early.base ≡ None
+    → All (λ (e : ℕ × Item). early.base < e.0) early.held
+above_next early ring missing =
+    let differ = numbers-all (λ k. k ≢ early.base) early.held
+        (λ k some same. not_some (item_with early.held k) (ap (item_with early.held) same ∙ missing)
+        some) in
+    λ k d below.
+    let from = (ring.within k d below).0 in let other = differ k d below in omega arith
+
+-- numbers are compared either way round
+pub eqb-turned : (n k : ℕ) → eqb k n ≡ eqb n k
+eqb-turned n k =
+    ⊎_elim
+    (λ (same : n ≡ k). eq-eqb k n (sym same) ∙ sym (eq-eqb n k same))
+    (λ (differ : n ≡ k → ⊥). ne_eqb k n (λ e. differ (sym e)) ∙ sym (ne_eqb n k differ))
+    (cases_eq n k)
+
+-- a number is within bounds where those between another and it have items
+pub next_small : (n next : ℕ) (held : List (ℕ × Item))
+    → n < 2 ^ 63
+    → All (λ (e : ℕ × Item). e.0 < 2 ^ 63) held
+    → ((k : ℕ) → n + 1 ≤ k → k < next → IsSome (item_with held k))
+    → next ≤ 2 ^ 63
+next_small n next held small all there =
+    ⊎_elim
+    (λ (first : next < n + 2). omega arith)
+    (λ (more : n + 2 ≤ next).
+    let last = numbers-found (λ k. k < 2 ^ 63) held (next - 1) all
+        (there (next - 1) (omega arith) (omega arith)) in omega arith)
+    (cases_lt next (n + 2))

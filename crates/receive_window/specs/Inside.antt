@@ -1,17 +1,18 @@
--- What the fields of a receive window keep to.
-use Rattle.std.specs.Prelude.{ℕ, ◌+◌, ◌^◌, ◌<◌, ◌≤◌, IsSome}
-use Rattle.std.specs.Ordering.{nat_cmp}
-use Rattle.std.specs.BTreeMap.{BTreeMap, IsOrdered}
+-- What the fields of a receive window keep to. No public clause cites this file.
+use Rattle.std.specs.Prelude.{◌≡◌, ℕ, ◌^◌, ◌<◌, ◌≤◌, nat_le, None, List, filter, All}
 use Rattle.chan_values.specs.declared.item.Item.{Item}
 use Rattle.chan_values.specs.Limits.{max_window}
-use Rattle.receive_window.specs.Window.{item_with}
+use Rattle.slot_ring.specs.Ring.{Ring, value_with}
 
--- the early numbers ascend between the next one and the end of the window
-pub record IsReassembly (window expected : ℕ) (early : BTreeMap ℕ Item) : Type 0 where
-  pub low : 1 ≤ window
-  pub high : window ≤ max_window
-  pub numbers : expected ≤ 2 ^ 63
-  pub ordered : IsOrdered nat_cmp early
-  pub above : (n : ℕ) → IsSome (item_with early.entries n) → expected < n
-  pub within : (n : ℕ) → IsSome (item_with early.entries n) → n < expected + window
-  pub small : (n : ℕ) → IsSome (item_with early.entries n) → n < 2 ^ 63
+-- the items with a number and those above
+abbrev pub from_number : ℕ → List (ℕ × Item) → List (ℕ × Item)
+from_number n held = filter (λ (e : ℕ × Item). nat_le n e.0) held
+
+-- the ring begins at the next number, which it does not have, and reaches no further than the window
+pub record IsReassembly (window : ℕ) (early : Ring Item) : Type 0 where
+  pub narrow : 1 ≤ window
+  pub wide : window ≤ max_window
+  pub numbers : early.base ≤ 2 ^ 63
+  pub missing : value_with early.held early.base ≡ None
+  pub small : All (λ (e : ℕ × Item). e.0 < 2 ^ 63) early.held
+  pub room : early.capacity ≤ window

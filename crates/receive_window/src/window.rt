@@ -7,8 +7,8 @@ ghost use Rattle.receive_window.specs.Window.{AreDifferent, empty_window, is_tak
 use crate::release::release;
 use crate::take::Take;
 use chan_values::{Item, Items, NoMemory};
+use slot_ring::SlotRing;
 use std::alloc::Global;
-use std::collections::BTreeMap;
 use std::marker::Model;
 
 /// The stream messages that came, by number.
@@ -16,8 +16,8 @@ use std::marker::Model;
 pub struct Window {
     alloc: Global,
     window: u64,
-    expected: u64,
-    early: BTreeMap<u64, Item>,
+    // Its base is the next number, which it does not have.
+    early: SlotRing<Item>,
 }
 
 impl Model for Window {
@@ -28,11 +28,11 @@ impl Model for Window {
 
     ghost view = { λ w. record {
       window = w.window;
-      expected = w.expected;
-      early = w.early.entries;
+      expected = w.early.base;
+      early = w.early.held;
     } };
 
-    ghost invariant = { λ w. IsReassembly w.window w.expected w.early };
+    ghost invariant = { λ w. IsReassembly w.window w.early };
 }
 
 impl Window {
@@ -45,8 +45,7 @@ impl Window {
         Ok(Window {
             alloc,
             window,
-            expected: 0,
-            early: BTreeMap::new(alloc),
+            early: SlotRing::new(alloc, 0),
         })
     }
 
@@ -61,23 +60,28 @@ impl Window {
         ensures refused { IfRefused result item self.old self.new }
         ensures different { AreDifferent self.new.early }
     {
-        if seq < self.expected || self.early.contains_key(&seq) {
+        let expected = self.early.base();
+        if seq < expected || self.early.get(seq).is_some() {
             return Take::Late;
         }
-        if seq >= self.expected + self.window {
+        let ahead = seq - expected;
+        if ahead >= self.window {
             return Take::Beyond;
         }
-        if seq > self.expected {
-            match self.early.insert(seq, item) {
-                Ok(_) => return Take::Released(Items::none(self.alloc)),
-                Err(failed) => return Take::NoMemory(failed.value.1),
-            }
+        if ahead > 0 {
+            let room = self.early.reserve(ahead as usize + 1, self.window as usize);
+            let Ok(()) = room else {
+                return Take::NoMemory(item);
+            };
+            let _none = self.early.set(seq, item);
+            return Take::Released(Items::none(self.alloc));
         }
-        let Ok(mut items) = Vec::with_capacity(self.alloc, self.early.len() + 1) else {
+        let next = self.early.next_free(seq + 1);
+        let Ok(mut items) = Vec::with_capacity(self.alloc, (next - seq) as usize) else {
             return Take::NoMemory(item);
         };
         items.push_reserved(item);
-        self.expected = release(&mut self.early, seq + 1, &mut items);
+        release(&mut self.early, next, &mut items);
         Take::Released(Items::new(items))
     }
 
@@ -85,7 +89,7 @@ impl Window {
     pub fn expected(&self) -> u64
         ensures { result ≡ self.now.expected }
     {
-        self.expected
+        self.early.base()
     }
 
     /// How many items wait for an earlier one: fewer than the window has.

@@ -1,15 +1,15 @@
 //! The send queue: messages wait here from their put to their acknowledgement.
 
-ghost use Rattle.std.specs.Prelude.{◌≡◌, ◌⊎◌, ◌<◌, ◌≤◌, IfOk, length};
+ghost use Rattle.std.specs.Prelude.{true, false, ◌≡◌, ◌⊎◌, ◌<◌, ◌≤◌, IfOk, length};
 ghost use Rattle.chan_values.specs.Limits.{max_payload, max_window};
 ghost use Rattle.resend_queue.specs.Queue.{after_ack, after_mark, after_out, after_put, empty_queue, first_ready};
 ghost use Rattle.resend_queue.specs.Queue.{IfStream, IsTransmittable, lowest, mark_answer, moment_of, out_of, put_answer, reopened};
 
 use crate::answer::{Kept, Mark, Out, Sent};
-use crate::slot::{Slot, first_ready, mark, reopen, transmit};
+use crate::slot::Slot;
 use chan_values::{Item, MAX_SEQ, NoMemory};
+use slot_ring::SlotRing;
 use std::alloc::Global;
-use std::collections::BTreeMap;
 use std::marker::Model;
 
 #[cfg(test)]
@@ -24,8 +24,12 @@ pub struct Queue {
     alloc: Global,
     window: u64,
     next: u64,
-    slots: BTreeMap<u64, Slot>,
-    // How often the lowest message was marked due.
+    // Its base is the lowest unacknowledged number, or the next one where there is none.
+    slots: SlotRing<Slot>,
+    // Of the unacknowledged messages those below it were transmitted since the last reopening.
+    cursor: u64,
+    // Whether the lowest message was marked due after its last transmission, and how often it was.
+    due: bool,
     dues: u64,
 }
 
@@ -34,17 +38,16 @@ impl Model for Queue {
 
     ghost Value = { QueueState };
 
-    ghost use Rattle.resend_queue.specs.Inside.{messages};
-    ghost use Rattle.resend_queue.specs.Inside.{IsRetransmissionQueue};
+    ghost use Rattle.resend_queue.specs.Inside.{IsRetransmissionQueue, messages};
 
     ghost view = { λ q. record {
       window = q.window;
       next = q.next;
-      pending = messages q.slots;
+      pending = messages q.cursor q.due q.slots;
       dues = q.dues;
     } };
 
-    ghost invariant = { λ q. IsRetransmissionQueue q.next q.slots q.dues };
+    ghost invariant = { λ q. IsRetransmissionQueue q.window q.next q.cursor q.due q.dues q.slots };
 }
 
 impl Queue {
@@ -58,7 +61,9 @@ impl Queue {
             alloc,
             window,
             next: 0,
-            slots: BTreeMap::new(alloc),
+            slots: SlotRing::new(alloc, 0),
+            cursor: 0,
+            due: false,
             dues: 0,
         })
     }
@@ -67,10 +72,7 @@ impl Queue {
     pub fn low(&self) -> u64
         ensures { result ≡ lowest self.now }
     {
-        match self.slots.first_key_value() {
-            Some((seq, _)) => *seq,
-            None => self.next,
-        }
+        self.slots.base()
     }
 
     /// The next number.
@@ -90,18 +92,24 @@ impl Queue {
         if self.next == MAX_SEQ + 1 {
             return Kept::Spent(item);
         }
-        let low = self.low();
-        if self.next.saturating_sub(low) == self.window {
+        let span = self.next - self.slots.base();
+        if span == self.window {
             return Kept::Full(item);
         }
+        let room = self.slots.reserve(span as usize + 1, self.window as usize);
+        let Ok(()) = room else {
+            return Kept::NoMemory(item);
+        };
         let seq = self.next;
-        match self.slots.insert(seq, Slot::new(item, id, date)) {
-            Ok(_) => {
-                self.next += 1;
-                Kept::Seq(seq)
-            }
-            Err(failed) => Kept::NoMemory(failed.value.1.item),
-        }
+        let message = Slot {
+            id,
+            date,
+            item,
+            emitted: None,
+        };
+        let _none = self.slots.set(seq, message);
+        self.next += 1;
+        Kept::Seq(seq)
     }
 
     /// Takes an acknowledgement, and tells the moment of the number's last transmission. `None`
@@ -111,10 +119,15 @@ impl Queue {
         ensures state { self.new ≡ after_ack self.old seq result }
     {
         let moment = self.moment(seq)?;
-        if self.low() == seq {
-            self.dues = 0;
+        let low = self.slots.base();
+        let _acked = self.slots.remove(seq);
+        if seq != low {
+            return Some(moment);
         }
-        let _acked = self.slots.remove(&seq);
+        self.slots.skip(self.next);
+        self.cursor = self.cursor.max(self.slots.base());
+        self.due = false;
+        self.dues = 0;
         Some(moment)
     }
 
@@ -122,7 +135,7 @@ impl Queue {
     fn moment(&self, seq: u64) -> Option<u64>
         ensures { result ≡ moment_of self.now seq }
     {
-        match self.slots.get(&seq) {
+        match self.slots.get(seq) {
             Some(slot) => slot.emitted,
             None => None,
         }
@@ -134,19 +147,20 @@ impl Queue {
         ensures answer { result ≡ mark_answer self.old now timeout }
         ensures state { self.new ≡ after_mark self.old result }
     {
-        let Some((seq, slot)) = self.slots.first_key_value() else {
+        let low = self.slots.base();
+        let Some(slot) = self.slots.get(low) else {
             return Mark::Nothing;
         };
-        if !slot.is_overdue(now, timeout) {
+        let sent = low < self.cursor;
+        if !slot.is_overdue(sent, self.due, now, timeout) {
             return Mark::Nothing;
         }
-        let seq = *seq;
         if self.dues >= MAX_DUES {
-            return Mark::GaveUp(seq);
+            return Mark::GaveUp(low);
         }
         self.dues += 1;
-        mark(&mut self.slots, seq);
-        Mark::Due(seq)
+        self.due = true;
+        Mark::Due(low)
     }
 
     /// The lowest message that may be transmitted: not yet on this connection, or marked due. It
@@ -156,26 +170,54 @@ impl Queue {
         ensures state { self.new ≡ after_out self.old now result }
         ensures transmittable { IfStream result IsTransmittable }
     {
-        let Some((seq, slot)) = first_ready(&self.slots) else {
+        let low = self.slots.base();
+        self.cursor = self.slots.next_taken(self.cursor, self.next);
+        let seq = first_to_send(low, self.cursor, self.due);
+        let Some(slot) = self.slots.get(seq) else {
             return Out::Idle;
         };
         let Ok(item) = slot.item.copy(self.alloc) else {
             return Out::NoMemory;
         };
-        let sent = Sent {
-            seq,
-            id: slot.id,
-            date: slot.date,
+        let id = slot.id;
+        let date = slot.date;
+        let emitted = Some(now);
+        let kept = Slot {
+            id,
+            date,
             item,
+            emitted,
         };
-        transmit(&mut self.slots, seq, now);
-        Out::Stream(sent)
+        let Some(first) = self.slots.set(seq, kept) else {
+            unreachable!()
+        };
+        self.cursor = self.cursor.max(seq + 1);
+        self.due = false;
+        let item = first.item;
+        Out::Stream(Sent {
+            seq,
+            id,
+            date,
+            item,
+        })
     }
 
     /// Begins a new connection: each message may be transmitted on it.
     pub fn reopen(&mut self)
         ensures { self.new ≡ reopened self.old }
     {
-        reopen(&mut self.slots);
+        let low = self.slots.base();
+        self.cursor = low;
     }
+}
+
+/// The first number that may be transmitted: the lowest one where it was transmitted and is marked,
+/// or else the cursor.
+fn first_to_send(low: u64, cursor: u64, due: bool) -> u64
+    requires { low ≤ cursor }
+    ensures marked { due ≡ true → result ≡ low }
+    ensures unmarked { due ≡ false → result ≡ cursor }
+    ensures within { result ≤ cursor }
+{
+    if due && low < cursor { low } else { cursor }
 }

@@ -297,5 +297,5 @@ module _ {T : Type 0} where
       adds (Some v) rest =
           AllPairs-cons (λ (e f : ℕ × T). e.0 < f.0) (a, v) (numbered g (a + 1) m)
           (λ k d low. let within = numbered-within g (a + 1) (a + 1 + m) (a + 1) m
-              (omega arith) (omega arith) k d low in omega arith)
+          (omega arith) (omega arith) k d low in omega arith)
           rest

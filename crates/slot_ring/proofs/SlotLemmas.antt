@@ -1,6 +1,6 @@
 -- Slots of a ring: which numbers share one, and what a write of one slot changes.
-use Rattle.std.proofs.Common.{◌≡◌, ◌⊎◌, ℕ, ◌+◌, ◌*◌, ◌/◌, ◌%◌, ◌<◌, ◌≤◌, zero, suc, Bool, true, false, cond, not, Option, Some, None, is_some, List, length, get_or, set, ⊎_elim, refl, sym, ap, ◌∙◌, arith}
-use Rattle.std.proofs.lemmas.Bool.{cases_lt}
+use Rattle.std.proofs.Common.{◌≡◌, ◌⊎◌, ℕ, ◌+◌, ◌*◌, ◌/◌, ◌%◌, ◌<◌, ◌≤◌, zero, suc, Bool, true, false, cond, not, Option, Some, None, is_some, List, length, get_or, set, eqb, ⊎_elim, refl, sym, ap, ◌∙◌, arith}
+use Rattle.std.proofs.lemmas.Bool.{cases_eq, cases_lt, eq-eqb, ne_eqb}
 use Rattle.std.proofs.lemmas.List.{get_or-set_same, get_or-set_other, get_or_read}
 use Rattle.std.proofs.Math.Nat.{mod-lt}
 use mir.Val.{bool_byte}
@@ -115,6 +115,44 @@ module _ {T : Type 0} where
       ∙ numbered-set (slot_at c (set slots (n % c) (Some v))) (slot_at c slots) base c n v low high
       (slot_at-set_same slots c n (Some v) (omega arith) sized)
       (λ k from to differ. slot_at-set_other slots c base n k (Some v) low high from to differ)
+
+  -- and what is found then
+  pub value_with-written : (slots : List (Option T)) (c base n at : ℕ) (v : T)
+      → length slots ≡ c
+      → base ≤ n
+      → n < base + c
+      → at ≡ n % c
+      → (k : ℕ)
+      → value_with (numbered (slot_at c (set slots at (Some v))) base c) k
+      ≡ cond (eqb k n) (Some v) (value_with (numbered (slot_at c slots) base c) k)
+  value_with-written slots c base n at v sized low high is k =
+      ap (λ (i : ℕ). value_with (numbered (slot_at c (set slots i (Some v))) base c) k) is
+      ∙ ⊎_elim
+      (λ (here : k ≡ n). rw (here, eq-eqb n n refl)
+      (value_with-numbered (slot_at c (set slots (n % c) (Some v))) base c n low high
+      ∙ slot_at-set_same slots c n (Some v) (omega arith) sized))
+      (λ (differ : k ≡ n → ⊥). rw (ne_eqb k n differ) (other differ))
+      (cases_eq k n)
+    where
+      other : (k ≡ n → ⊥)
+          → value_with (numbered (slot_at c (set slots (n % c) (Some v))) base c) k
+          ≡ value_with (numbered (slot_at c slots) base c) k
+      other differ =
+          ⊎_elim
+          (λ (below : k < base).
+          value_with-below (slot_at c (set slots (n % c) (Some v))) base c k below
+          ∙ sym (value_with-below (slot_at c slots) base c k below))
+          (λ (from : base ≤ k).
+          ⊎_elim
+          (λ (in' : k < base + c).
+          value_with-numbered (slot_at c (set slots (n % c) (Some v))) base c k from in'
+          ∙ slot_at-set_other slots c base n k (Some v) low high from in' differ
+          ∙ sym (value_with-numbered (slot_at c slots) base c k from in'))
+          (λ (past : base + c ≤ k).
+          value_with-past (slot_at c (set slots (n % c) (Some v))) base c k past
+          ∙ sym (value_with-past (slot_at c slots) base c k past))
+          (cases_lt k (base + c)))
+          (cases_lt k base)
 
   -- the values after the slot of a number was cleared
   pub numbered-cleared : (slots : List (Option T)) (c base n at : ℕ)

@@ -37,7 +37,7 @@ module _ {T : Type 0} where
       let n : ℕ = base + count in
       let within : n % c < length slots = rw sized (mod-lt n (omega arith)) in
       let was : o ≡ slot_at c slots n =
-          get_or_read slots (n % c) o within (read ∙ ap (λ (i : ℕ). get_or slots i o) is) None in
+      get_or_read slots (n % c) o within (read ∙ ap (λ (i : ℕ). get_or slots i o) is) None in
       rw (is, goes) (record {
         left = λ k low high.
             slot_at-set_other slots c base n k None (omega arith) (omega arith) (omega arith) high

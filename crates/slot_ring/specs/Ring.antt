@@ -24,8 +24,8 @@ ring_code {T} code =
 
 module _ {T : Type 0} where
   -- no value, and no room
-  abbrev pub empty_ring : Ring T
-  empty_ring = record { base = 0; capacity = 0; held = [] }
+  abbrev pub empty_ring : ℕ → Ring T
+  empty_ring base = record { base = base; capacity = 0; held = [] }
 
   -- a number has room
   abbrev pub HasRoom : Ring T → ℕ → Type 0

@@ -4,5 +4,7 @@
 
 mod ring;
 mod slots;
+#[cfg(test)]
+mod tests;
 
 pub use ring::SlotRing;

@@ -1,6 +1,6 @@
 //! The ring.
 
-ghost use Rattle.std.specs.Prelude.{◌≡◌, ℕ, ◌+◌, ◌^◌, ◌<◌, ◌≤◌, IfOk, IsSome, None, OnErr, OnOk, length, max, option_copied};
+ghost use Rattle.std.specs.Prelude.{◌≡◌, ◌==◌, if◌then◌else◌, ℕ, ◌+◌, ◌^◌, ◌<◌, ◌≤◌, IfOk, IsSome, None, OnErr, OnOk, length, max, option_copied};
 ghost use Rattle.slot_ring.specs.Ring.{HasRoom, IsRing, empty_ring, value_with, with_value, without};
 
 use crate::slots::{empty_slots, place, spread};
@@ -37,14 +37,15 @@ impl<T> Model for SlotRing<T> {
 }
 
 impl<T: Drop> SlotRing<T> {
-    /// A ring with no capacity, from 0 on. It takes no memory.
-    pub fn new(alloc: Global) -> SlotRing<T>
-        ensures { result ≡ empty_ring }
+    /// A ring with no capacity, from a base on. It takes no memory.
+    pub fn new(alloc: Global, base: u64) -> SlotRing<T>
+        requires { base ≤ 2 ^ 63 }
+        ensures { result ≡ empty_ring base }
     {
         SlotRing {
             alloc,
             slots: Vec::new(alloc),
-            base: 0,
+            base,
             taken: 0,
         }
     }
@@ -59,7 +60,8 @@ impl<T: Drop> SlotRing<T> {
 
     /// How many values there are.
     pub fn len(&self) -> usize
-        ensures { result ≡ length self.now.held }
+        ensures value { result ≡ length self.now.held }
+        ensures sound { IsRing self.now }
     {
         self.taken
     }
@@ -80,6 +82,9 @@ impl<T: Drop> SlotRing<T> {
         ensures replaced { result ≡ value_with self.old.held number }
         ensures state { self.new
             ≡ record self.old { held = with_value self.old.held number value } }
+        ensures found { (n : ℕ) → value_with self.new.held n
+            ≡ (if n == number then Some value else value_with self.old.held n) }
+        ensures sound { IsRing self.new }
     {
         let at = (number % self.slots.len() as u64) as usize;
         let replaced = self.slots[at].replace(value);

@@ -3,8 +3,8 @@ ghost use Rattle.std.specs.Prelude.{◌≡◌, IfOk, length};
 use super::Queue;
 use crate::{Kept, Mark, Out};
 use chan_values::{Bytes, Item, MAX_SEQ};
+use slot_ring::SlotRing;
 use std::alloc::Global;
-use std::collections::BTreeMap;
 use std::test::Fail;
 
 /// An item of one byte.
@@ -52,7 +52,9 @@ fn a_refused_item_comes_back(rt: HostRuntime) -> Result<(), Fail> {
         alloc,
         window: 1,
         next: MAX_SEQ,
-        slots: BTreeMap::new(alloc),
+        slots: SlotRing::new(alloc, MAX_SEQ),
+        cursor: MAX_SEQ,
+        due: false,
         dues: 0,
     };
     let last = queue.put(item(alloc, b'c')?, [3; 16], 5);
@@ -60,6 +62,30 @@ fn a_refused_item_comes_back(rt: HostRuntime) -> Result<(), Fail> {
     let spent = queue.put(item(alloc, b'd')?, [4; 16], 5);
     let back = matches!(&spent, Kept::Spent(item) if item.payload.as_slice() == b"d".as_slice());
     assert!(rt; back, "no number is left, which counts before the window");
+    Ok(())
+}
+
+#[test]
+fn a_full_queue_with_nothing_to_send_is_not_searched(rt: HostRuntime) -> Result<(), Fail> {
+    let alloc = rt.alloc();
+    let mut queue = Queue::new(alloc, 10_000).expect(&rt, "there is memory");
+    for number in 0..10_000 {
+        let kept = queue.put(item(alloc, b'a')?, [1; 16], 5);
+        assert!(rt;
+            matches!(kept, Kept::Seq(seq) if seq == number),
+            "{number} is kept"
+        );
+    }
+    for number in 0..10_000 {
+        let out = queue.next_out(6);
+        assert!(rt;
+            matches!(&out, Out::Stream(sent) if sent.seq == number),
+            "{number} goes out"
+        );
+    }
+    for _count in 0..5_000_000 {
+        assert!(rt; matches!(queue.next_out(7), Out::Idle), "nothing is left");
+    }
     Ok(())
 }
 

@@ -1,97 +1,148 @@
-use Rattle.std.proofs.Common.{◌≡◌, ◌≢◌, ℕ, ◌+◌, ◌^◌, ◌<◌, List, [], ◌∷◌, ◌++◌, Some, cond, eqb, is_some, sym, ap, ◌∙◌, arith, refl, ⊎_elim, subst}
-use Rattle.std.proofs.lemmas.Bool.{cases_eq, ne_eqb}
+use Rattle.std.proofs.Common.{◌≡◌, ◌≢◌, ℕ, ◌+◌, ◌^◌, ◌<◌, ◌≤◌, List, [], ◌∷◌, ◌++◌, filter, leb, ltb, sym, ap, ◌∙◌, arith, refl, subst, ⊎_elim}
+use Rattle.std.proofs.lemmas.Bool.{cases_lt, ne_eqb}
+use Rattle.std.proofs.lemmas.List.Elements.{All-append, All-cons, All-filter}
+use Rattle.std.proofs.lemmas.List.Kept.{AllPairs-filter}
 use Rattle.std.specs.Option.{IsSome}
 use Rattle.chan_values.specs.declared.item.Item.{Item}
-use Rattle.receive_window.specs.declared.take.Take.TheVariants as takes
+use Rattle.slot_ring.specs.Ring.{Ring, with_value}
+use Rattle.receive_window.specs.Inside.{from_number}
 use Rattle.receive_window.specs.Window.{WindowState, item_with, items_in_order}
-use Rattle.receive_window.proofs.ItemLemmas.{is_at-same, lookup-item_with, Releases-early, Releases-next_at, fresh, not_late, released-not_late, no_memory-not_late, late-not_beyond, numbers_differ}
+use Rattle.receive_window.proofs.ItemLemmas.{Releases-early, Releases-next_at, above_next, absent, copied-some, eqb-turned, item_with-before, item_with-from, late-not_beyond, next_small, numbers-found, numbers_differ}
 use Rattle.receive_window.proofs.window.Window.take.Goals as goal
-use Rattle.receive_window.proofs.window.Window.take.Goals.{then-seq-self-via-then-seq-self, then-seq-self-via-else-seq-self+then-contains_key}
+use Rattle.receive_window.proofs.window.Window.take.Goals.{then-seq-expected-via-then-seq-expected, then-seq-expected-via-else-seq-expected+then-is_some}
 
-pub returns-then-seq-self-clause-beyond : goal.returns-then-seq-self-clause-beyond
-returns-then-seq-self-clause-beyond c =
+pub returns-then-seq-expected-clause-beyond : goal.returns-then-seq-expected-clause-beyond
+returns-then-seq-expected-clause-beyond c =
     let inside = c.self.inside in
+    let early = inside.early in
     let sound = c.self.invariant in
-    let near : c.args.seq < inside.expected + inside.window = elim c.then-seq-self.branch [
-      | then-seq-self-via-then-seq-self w ↦ let low = w.if-seq-self.true in omega arith
-      | then-seq-self-via-else-seq-self+then-contains_key w ↦
-          sound.within c.args.seq
-          (sym (ap is_some (lookup-item_with inside.early.entries c.args.seq))
-          ∙ sym w.contains_key.ensures ∙ w.if-contains_key.true)
+    let near : c.args.seq < early.base + inside.window = elim c.then-seq-expected.branch [
+      | then-seq-expected-via-then-seq-expected w ↦
+          let low = w.if-seq-expected.true in
+          let base = c.base-expected.ensures.value in
+          let some = sound.narrow in omega arith
+      | then-seq-expected-via-else-seq-expected+then-is_some w ↦
+          let there = numbers-found (λ k. k < early.base + early.capacity) early.held c.args.seq
+              (λ k d below. (c.base-expected.ensures.sound.within k d below).1)
+              (subst IsSome w.get.ensures
+              (copied-some w.get.result (sym w.is_some.ensures ∙ w.if-is_some.true))) in
+          let room = sound.room in omega arith
     ] in
-    let below : c.args.seq < c.args.self.now.expected + c.args.self.now.window
-    = subst (λ (v : WindowState). c.args.seq < v.expected + v.window) c.self.view_is near in
+    let below : c.args.seq < c.args.self.now.expected + c.args.self.now.window =
+        subst (λ (v : WindowState). c.args.seq < v.expected + v.window) c.self.view_is near in
     ((λ is. absurd (late-not_beyond is)), (λ far. absurd (omega (arith, below, far))))
 
--- the early items with one more
-inserted : (c : goal.Joined-insert-2) (k : ℕ)
-    → item_with c.insert.new.self.entries k ≡ cond (eqb c.args.seq k) (Some c.args.item)
-    (item_with c.self.inside.early.entries k)
-inserted c k =
-    sym (lookup-item_with c.insert.new.self.entries k) ∙ c.in-Ok.ensures.updates.0 k
-    ∙ rw (is_at-same c.args.seq k, lookup-item_with c.self.inside.early.entries k) refl
-
-pub invariant_of-self : goal.invariant_of-self
-invariant_of-self c =
+pub invariant_of-self-then-ahead-gt0 : goal.invariant_of-self-then-ahead-gt0
+invariant_of-self-then-ahead-gt0 c =
     let inside = c.self.inside in
+    let early = inside.early in
     let sound = c.self.invariant in
-    let ahead = c.if-seq-self-3.true in
-    let near = c.if-seq-self-2.false in
-    let each : (P : ℕ → Type 0) → P c.args.seq →
-    ((k : ℕ) → IsSome (item_with inside.early.entries k) → P k) → (k : ℕ) → IsSome
-    (item_with c.insert.new.self.entries k) → P k
-    = λ P new old k some. ⊎_elim
-    (λ (same : c.args.seq ≡ k). subst P same new)
-    (λ (differ : c.args.seq ≢ k). old k
-    (subst IsSome (inserted c k ∙ rw (ne_eqb c.args.seq k differ) refl) some))
-    (cases_eq c.args.seq k) in
+    let reserved = c.in-Ok.ensures.rest in
+    let state = c.set-none.ensures.state in
+    let base = ap (λ (r : Ring Item). r.base) state ∙ ap (λ (r : Ring Item). r.base) reserved in
+    let held = ap (λ (r : Ring Item). r.held) state
+        ∙ ap (λ (r : Ring Item). with_value r.held c.args.seq c.args.item) reserved in
+    let ahead = c.if-ahead-gt0.true in
+    let differ : early.base ≢ c.args.seq = λ same. (let at = c.base-expected.ensures.value in
+        omega arith) in
     record {
-      low = sound.low;
-      high = sound.high;
-      numbers = sound.numbers;
-      ordered = c.in-Ok.ensures.ordered;
-      above = each (λ k. inside.expected < k) (omega arith) sound.above;
-      within = each (λ k. k < inside.expected + inside.window) (omega arith) sound.within;
-      small = each (λ k. k < 2 ^ 63) c.requires sound.small;
+      narrow = sound.narrow;
+      wide = sound.wide;
+      numbers = rw base sound.numbers;
+      missing = rw base
+          (c.set-none.ensures.found early.base
+          ∙ rw (ne_eqb early.base c.args.seq differ, reserved) sound.missing);
+      small = rw held
+          (All-append (λ (e : ℕ × Item). e.0 < 2 ^ 63)
+          (filter (λ (e : ℕ × Item). ltb e.0 c.args.seq) early.held)
+          ((c.args.seq, c.args.item) ∷ filter (λ (e : ℕ × Item). ltb c.args.seq e.0) early.held)
+          (All-filter (λ (e : ℕ × Item). ltb e.0 c.args.seq) (λ (e : ℕ × Item). e.0 < 2 ^ 63)
+          early.held sound.small)
+          (All-cons (λ (e : ℕ × Item). e.0 < 2 ^ 63) (c.args.seq, c.args.item)
+          (filter (λ (e : ℕ × Item). ltb c.args.seq e.0) early.held) c.requires
+          (All-filter (λ (e : ℕ × Item). ltb c.args.seq e.0) (λ (e : ℕ × Item). e.0 < 2 ^ 63)
+          early.held sound.small)));
+      room = rw (ap (λ (r : Ring Item). r.capacity) state)
+          (let most = c.in-Ok.ensures.most in let room = sound.room in omega arith);
     }
 
-pub returns-in-Ok-clause-late : goal.returns-in-Ok-clause-late
-returns-in-Ok-clause-late c =
+pub returns-then-ahead-gt0-clause-released : goal.returns-then-ahead-gt0-clause-released
+returns-then-ahead-gt0-clause-released c =
     let inside = c.self.inside in
-    let new =
-    fresh inside.window inside.expected c.args.seq inside.early.entries c.contains_key.result c.if-seq-self.false c.contains_key.ensures c.if-contains_key.false in
-    not_late c.args.self.now c.args.seq (takes.Released c.none.result) (rw (← c.self.view_is) new.1)
-    (released-not_late c.none.result)
+    let early = inside.early in
+    let reserved = c.in-Ok.ensures.rest in
+    let base = ap (λ (r : Ring Item). r.base) c.set-none.ensures.state
+        ∙ ap (λ (r : Ring Item). r.base) reserved in
+    let above = above_next early c.base-expected.ensures.sound c.self.invariant.missing in
+    rw (← c.self.view_is, c.none.ensures, base)
+    (Releases-early inside.window early.base c.args.seq c.args.item early.held
+    c.set-none.new.self.held
+    (let ahead = c.if-ahead-gt0.true in let at = c.base-expected.ensures.value in omega arith)
+    (λ k some. numbers-found (λ n. early.base < n) early.held k above some)
+    (λ k. c.set-none.ensures.found k
+    ∙ rw (reserved, eqb-turned c.args.seq k) refl)
+    (numbers_differ c.set-none.new.self.held c.set-none.ensures.sound.ascending))
 
-pub returns-in-Ok-clause-released : goal.returns-in-Ok-clause-released
-returns-in-Ok-clause-released c =
-    let inside = c.self.inside in
-    rw (← c.self.view_is, c.none.ensures)
-    (Releases-early inside.window inside.expected c.args.seq c.args.item inside.early.entries c.insert.new.self.entries c.if-seq-self-3.true c.self.invariant.above (inserted c)
-    (numbers_differ c.insert.new.self.entries c.in-Ok.ensures.ordered))
+pub release-requires-clause-small : goal.release-requires-clause-small
+release-requires-clause-small c =
+    next_small c.args.seq c.next_free-next.result c.self.inside.early.held c.requires
+    c.self.invariant.small c.next_free-next.ensures.passed
 
-pub returns-in-Err-clause-late : goal.returns-in-Err-clause-late
-returns-in-Err-clause-late c =
-    let inside = c.self.inside in
-    let new =
-    fresh inside.window inside.expected c.args.seq inside.early.entries c.contains_key.result c.if-seq-self.false c.contains_key.ensures c.if-contains_key.false in
-    not_late c.args.self.now c.args.seq (takes.NoMemory c.in-Err.failed.value.1)
-    (rw (← c.self.view_is) new.1) (no_memory-not_late c.in-Err.failed.value.1)
+pub invariant_of-self-2 : goal.invariant_of-self-2
+invariant_of-self-2 c =
+    let early = c.self.inside.early in
+    let sound = c.self.invariant in
+    let next = c.next_free-next.result in
+    rw c.release.ensures.rest (record {
+      narrow = sound.narrow;
+      wide = sound.wide;
+      numbers = next_small c.args.seq next early.held c.requires sound.small
+          c.next_free-next.ensures.passed;
+      missing = item_with-from next next early.held (omega arith) ∙ c.next_free-next.ensures.free;
+      small = All-filter (λ (e : ℕ × Item). leb next e.0) (λ (e : ℕ × Item). e.0 < 2 ^ 63)
+          early.held sound.small;
+      room = sound.room;
+    })
 
 pub returns-clause-released : goal.returns-clause-released
 returns-clause-released c =
     let inside = c.self.inside in
-    let sound = c.self.invariant in
-    let here : c.args.seq ≡ inside.expected = let above = c.if-seq-self.false in let below
-    = c.if-seq-self-3.false in omega arith in
-    let r = c.release-self-inside.ensures in
-    let list : c.release-self-inside.new.items.items
-    ≡ c.args.item ∷ items_in_order inside.early.entries
-    (c.args.seq + 1) c.release-self-inside.result
-    = r.items ∙ ap
-    (λ (l : List Item). l ++ items_in_order inside.early.entries
-    (c.args.seq + 1) c.release-self-inside.result) (c.push_reserved.ensures.items
-    ∙ ap (λ (l : List Item). l ++ c.args.item ∷ []) c.in-Ok-with_capacity.ensures.items) in
-    rw (← c.self.view_is, c.new.ensures)
-    (Releases-next_at inside.window inside.expected c.args.seq c.release-self-inside.result c.args.item c.release-self-inside.new.items.items inside.early.entries c.release-self-inside.new.early.entries here sound.above r.from list r.there r.missing r.rest r.gone
-    (numbers_differ c.release-self-inside.new.early.entries r.ordered))
+    let early = inside.early in
+    let next = c.next_free-next.result in
+    let at = c.base-expected.ensures.value in
+    let low = c.next_free-next.ensures.low in
+    let here : c.args.seq ≡ early.base =
+        let above = c.if-seq-expected.false in let below = c.if-ahead-gt0.false in omega arith in
+    let above = above_next early c.base-expected.ensures.sound c.self.invariant.missing in
+    let list : c.release.new.items.items
+        ≡ c.args.item ∷ items_in_order early.held (c.args.seq + 1) next =
+        c.release.ensures.items
+        ∙ ap (λ (l : List Item). l ++ items_in_order early.held (early.base + 1) next)
+        (c.push_reserved.ensures.items
+        ∙ ap (λ (l : List Item). l ++ c.args.item ∷ []) c.in-Ok-with_capacity.ensures.items)
+        ∙ ap (λ (n : ℕ). c.args.item ∷ items_in_order early.held (n + 1) next) (sym here) in
+    rw (← c.self.view_is, c.new.ensures, c.release.ensures.rest)
+    (Releases-next_at inside.window early.base c.args.seq next c.args.item
+    c.release.new.items.items early.held (from_number next early.held) here
+    (λ k some. numbers-found (λ n. early.base < n) early.held k above some) low list
+    c.next_free-next.ensures.passed c.next_free-next.ensures.free
+    (λ k beyond. ⊎_elim
+    (λ (old : k < c.args.seq + 1).
+    item_with-before next k early.held (omega arith)
+    ∙ sym (absent (item_with early.held k) (λ some.
+    let more = numbers-found (λ n. early.base < n) early.held k above some in omega arith)))
+    (λ (more : c.args.seq + 1 ≤ k). item_with-from next k early.held (beyond more))
+    (cases_lt k (c.args.seq + 1)))
+    (λ k from below. item_with-before next k early.held below)
+    (numbers_differ (from_number next early.held)
+    (AllPairs-filter (λ (e f : ℕ × Item). e.0 < f.0) (λ (e : ℕ × Item). leb next e.0) early.held
+    c.base-expected.ensures.sound.ascending)))
+
+pub returns-clause-different : goal.returns-clause-different
+returns-clause-different c =
+    let early = c.self.inside.early in
+    let next = c.next_free-next.result in
+    rw c.release.ensures.rest
+    (numbers_differ (from_number next early.held)
+    (AllPairs-filter (λ (e f : ℕ × Item). e.0 < f.0) (λ (e : ℕ × Item). leb next e.0) early.held
+    c.base-expected.ensures.sound.ascending))

@@ -1,84 +1,77 @@
-use Rattle.std.proofs.Common.{◌≡◌, ◌≤◌, ℕ, sym, ◌∙◌, ap, arith, refl, cond, eqb, Bool, true, false, not, filter, map}
+use Rattle.std.proofs.Common.{List, ap, sym, ◌∙◌, arith, refl}
 use Rattle.std.proofs.lemmas.Bool.{eq-eqb, ne_eqb}
-use Rattle.std.proofs.lemmas.List.Elements.{All-filter}
-use Rattle.std.specs.BTreeMap.{BTreeMap, is_at}
-use Rattle.std.specs.Map.{remove_entry}
-use Rattle.std.specs.Ordering.{nat_cmp}
-use Rattle.resend_queue.specs.declared.slot.Slot.{Slot}
-use Rattle.resend_queue.specs.Queue.{Pending, lowest, first_number}
-use Rattle.resend_queue.specs.Inside.{messages, pending_of}
-use Rattle.resend_queue.specs.Inside.{IsKept}
-use Rattle.resend_queue.proofs.SlotLemmas.{without_number-removed, remove_entry-messages}
+use Rattle.slot_ring.specs.Ring.{without}
+use Rattle.resend_queue.specs.Queue.{Pending}
+use Rattle.resend_queue.proofs.QueueLemmas.{base-lowest, messages-risen, messages-without, sound-risen, sound-without}
 use Rattle.resend_queue.proofs.queue.Queue.acked.Goals as goal
-use Rattle.resend_queue.proofs.queue.Queue.acked.Goals.{then-low-seq, else-low-seq}
-
--- the fields before the removal
-fields : (c : goal.Joined-acked)
-    → let after = c.if-low-seq.self-inside in let before = c.self.inside in
-    (after.window ≡ before.window) × (after.next ≡ before.next) × (after.slots ≡ before.slots) ×
-    (after.dues ≡ cond
-    (eqb (first_number (messages before.slots) before.next) c.args.seq) 0 before.dues)
-fields c =
-    let low : c.low.result ≡ first_number (messages c.self.inside.slots) c.self.inside.next
-    = c.low.ensures ∙ ap lowest (sym c.self.view_is) in
-    elim c.if-low-seq.branch [
-      | then-low-seq w ↦ (
-        rw w.self-inside-is refl,
-        rw w.self-inside-is refl,
-        rw w.self-inside-is refl,
-        rw (
-          w.self-inside-is,
-          eq-eqb
-              (first_number (messages c.self.inside.slots) c.self.inside.next) c.args.seq
-              (sym low ∙ w.if-low-seq.true),
-        ) refl,
-      )
-      | else-low-seq w ↦ (
-        rw w.self-inside-is refl,
-        rw w.self-inside-is refl,
-        rw w.self-inside-is refl,
-        rw (
-          w.self-inside-is,
-          ne_eqb
-              (first_number (messages c.self.inside.slots) c.self.inside.next) c.args.seq
-              (λ e. w.if-low-seq.false (low ∙ e)),
-        ) refl,
-      )
-    ]
-
--- the messages after the removal
-removed : (c : goal.Joined-acked)
-    → c.remove-acked.new.self.entries ≡ remove_entry
-    (is_at (nat_cmp c.args.seq)) c.self.inside.slots.entries
-removed c = c.remove-acked.ensures.entries
-    ∙ ap (λ (m : BTreeMap ℕ Slot). remove_entry (is_at (nat_cmp c.args.seq)) m.entries) (fields c).2
 
 pub invariant_of-self : goal.invariant_of-self
 invariant_of-self c =
-    let f = fields c in
-    let sound = c.self.invariant in
-    let left : messages c.remove-acked.new.self ≡ filter (λ p. not (eqb p.seq c.args.seq))
-    (messages c.self.inside.slots) = ap (map pending_of) (removed c)
-    ∙ remove_entry-messages c.self.inside.slots.entries c.args.seq sound.ordered in
-    record {
-      ordered = c.remove-acked.ensures.ordered;
-      numbers = rw f.1 sound.numbers;
-      kept = rw (f.1, left)
-          (All-filter (λ (p : Pending). not (eqb p.seq c.args.seq)) (IsKept c.self.inside.next)
-          (messages c.self.inside.slots) sound.kept);
-      marks = rw f.3
-          (few (eqb
-          (first_number
-          (messages c.self.inside.slots) c.self.inside.next) c.args.seq) c.self.inside.dues sound.marks);
-    }
-  where
-    few : (b : Bool) (n : ℕ) → n ≤ 3000 → cond b 0 n ≤ 3000
-    few true n h = omega arith
-    few false n h = h
+    let inside = c.self.inside in
+    sound-without inside.window inside.next inside.cursor inside.due inside.dues inside.slots
+    c.args.seq c.remove-acked.new.self c.self.invariant
+    (λ same. c.if-seq-low.true (same ∙ sym c.base-low.ensures.value)) c.remove-acked.ensures.state
+
+pub returns-then-seq-low-clause-state : goal.returns-then-seq-low-clause-state
+returns-then-seq-low-clause-state c =
+    let inside = c.self.inside in
+    let state = c.remove-acked.ensures.state in
+    let low = base-lowest inside.window inside.next inside.cursor inside.due inside.dues
+    inside.slots c.base-low.ensures.sound c.self.invariant in
+    rw (
+      ← c.self.view_is,
+      ← low,
+      ne_eqb inside.slots.base c.args.seq
+          (λ same. c.if-seq-low.true (sym same ∙ sym c.base-low.ensures.value)),
+    )
+    (ap (λ (ps : List Pending). record {
+      window = inside.window;
+      next = inside.next;
+      pending = ps;
+      dues = inside.dues;
+    })
+    (messages-without inside.window inside.next inside.cursor inside.due inside.dues inside.slots
+    c.args.seq c.remove-acked.new.self (ap (λ r. r.base) state) (ap (λ r. r.held) state)))
+
+pub invariant_of-self-2 : goal.invariant_of-self-2
+invariant_of-self-2 c =
+    let inside = c.self.inside in
+    let removed = c.remove-acked.ensures.state in
+    let state = c.skip.ensures.state in
+    let from = ap (λ r. r.base) removed in
+    let low = c.skip.ensures.low in
+    let high = c.skip.ensures.high in
+    let begun = c.self.invariant.begun in
+    let passed = c.self.invariant.passed in
+    rw (c.max-self-inside.ensures, c.base.ensures.value)
+    (sound-risen inside.window inside.next inside.cursor inside.due inside.dues inside.slots
+    c.args.seq c.skip.new.self c.self.invariant (omega arith) (omega arith) c.skip.ensures.first
+    (ap (λ r. r.capacity) state ∙ ap (λ r. r.capacity) removed)
+    (ap (λ r. r.held) state ∙ ap (λ r. r.held) removed))
 
 pub returns-clause-state : goal.returns-clause-state
 returns-clause-state c =
-    let f = fields c in
     let inside = c.self.inside in
-    rw (← c.self.view_is, f.0, f.1)
-    (without_number-removed inside.window inside.next inside.dues c.if-low-seq.self-inside.dues c.args.seq inside.slots.entries c.remove-acked.new.self.entries c.self.invariant.ordered (removed c) f.3)
+    let removed = c.remove-acked.ensures.state in
+    let state = c.skip.ensures.state in
+    let here = c.if-seq-low.false ∙ c.base-low.ensures.value in
+    let low = base-lowest inside.window inside.next inside.cursor inside.due inside.dues
+    inside.slots c.base-low.ensures.sound c.self.invariant in
+    rw (
+      ← c.self.view_is,
+      ← low,
+      here,
+      eq-eqb inside.slots.base inside.slots.base refl,
+      c.max-self-inside.ensures,
+      c.base.ensures.value,
+    )
+    (ap (λ (ps : List Pending). record {
+      window = inside.window;
+      next = inside.next;
+      pending = ps;
+      dues = 0;
+    })
+    (messages-risen inside.window inside.next inside.cursor inside.due inside.dues inside.slots
+    c.skip.new.self c.base.ensures.sound
+    (ap (λ r. r.held) state ∙ ap (λ r. r.held) removed
+    ∙ ap (without inside.slots.held) here)))

@@ -1,8 +1,11 @@
-use Rattle.resend_queue.proofs.SlotLemmas.{first_number-first}
+use Rattle.std.proofs.Common.{◌∙◌}
+use Rattle.resend_queue.proofs.QueueLemmas.{base-lowest}
 use Rattle.resend_queue.proofs.queue.Queue.low.Goals as goal
 
-pub returns-in-Some : goal.returns-in-Some
-returns-in-Some c =
+pub returns : goal.returns
+returns c =
     let inside = c.self.inside in
     rw (← c.self.view_is)
-    (first_number-first inside.slots.entries c.in-Some.seq.now c.in-Some.field-0-1.now inside.next c.in-Some.ensures.first)
+    (c.base.ensures.value
+    ∙ base-lowest inside.window inside.next inside.cursor inside.due inside.dues inside.slots
+    c.base.ensures.sound c.self.invariant)

@@ -1,53 +1,75 @@
-use Rattle.std.proofs.Common.{ℕ, inr, ◌≡◌, ◌++◌, ◌∷◌, [], List, ◌+◌, ◌∙◌, ap, arith}
-use Rattle.std.proofs.lemmas.List.Elements.{All-push}
-use Rattle.resend_queue.specs.declared.answer.Kept.TheVariants as Kept
+use Rattle.std.proofs.Common.{List, None, ap, ◌∙◌, ◌+◌, ◌-◌, inl, arith, refl}
+use Rattle.std.proofs.lemmas.Bool.{eq-eqb, ne_eqb}
+use Rattle.slot_ring.specs.Ring.{Ring, with_value}
 use Rattle.resend_queue.specs.declared.slot.Slot.{Slot}
-use Rattle.resend_queue.specs.Queue.{Pending, new_message}
-use Rattle.resend_queue.specs.Inside.{messages}
-use Rattle.resend_queue.specs.Inside.{IsKept}
-use Rattle.resend_queue.proofs.SlotLemmas.{after_put-inserted, IsKept-next}
+use Rattle.resend_queue.specs.Queue.{Pending}
+use Rattle.resend_queue.proofs.QueueLemmas.{base-lowest, messages-put, sound-put}
 use Rattle.resend_queue.proofs.queue.Queue.put.Goals as goal
 
--- the messages after the insertion
-inserted : (c : goal.Joined-insert-2)
-    → messages c.insert.new.self
-    ≡ messages c.self.inside.slots
-    ++ new_message c.self.inside.next c.args.item c.args.id c.args.date ∷ []
-inserted c =
+pub returns-then-span-self-clause-answer : goal.returns-then-span-self-clause-answer
+returns-then-span-self-clause-answer c =
     let inside = c.self.inside in
-    after_put-inserted
-    inside.next inside.slots.entries c.insert.new.self.entries c.new.result
-    (new_message inside.next c.args.item c.args.id c.args.date)
-    c.self.invariant.kept c.in-Ok.ensures.entries (c.new.ensures inside.next)
+    let low = c.base.ensures.value
+    ∙ base-lowest inside.window inside.next inside.cursor inside.due inside.dues inside.slots
+    c.base.ensures.sound c.self.invariant in
+    inl (rw (
+      ← c.self.view_is,
+      ← low,
+      ne_eqb inside.next 9223372036854775807 c.if-self.false,
+      eq-eqb (inside.next - c.base.result) inside.window c.if-span-self.true,
+    ) refl)
 
-pub invariant_of-self : goal.invariant_of-self
-invariant_of-self c =
-    let sound = c.self.invariant in
+pub invariant_of-self-2 : goal.invariant_of-self-2
+invariant_of-self-2 c =
     let inside = c.self.inside in
-    record {
-      ordered = c.in-Ok.ensures.ordered;
-      numbers = let n = sound.numbers in let differs = c.if-self.false in
-          omega arith;
-      kept = rw (inserted c)
-          (All-push (IsKept (inside.next + 1)) (messages inside.slots)
-          (new_message inside.next c.args.item c.args.id c.args.date)
-          (IsKept-next inside.next (messages inside.slots) sound.kept)
-          (record { below = omega arith; dated = c.requires.dated; short = c.requires.short }));
-      marks = sound.marks;
-    }
+    let rest = c.in-Ok.ensures.rest in
+    let state = c.set-none.ensures.state in
+    let low = c.base.ensures.value in
+    let span = c.self.invariant.span in
+    let numbers = c.self.invariant.numbers in
+    let not_full = c.if-span-self.false in
+    let not_spent = c.if-self.false in
+    let most = c.in-Ok.ensures.most in
+    let room = c.self.invariant.room in
+    sound-put inside.window inside.next inside.cursor inside.due inside.dues inside.slots
+    (record { id = c.args.id; date = c.args.date; item = c.args.item; emitted = None })
+    c.set-none.new.self c.base.ensures.sound c.self.invariant
+    (record { below = omega arith; dated = c.requires.dated; short = c.requires.short })
+    (omega arith) (omega arith)
+    (ap (λ r. r.base) state ∙ ap (λ r. r.base) rest)
+    (rw (ap (λ r. r.capacity) state) (omega arith))
+    (ap (λ r. r.held) state ∙ ap (λ (r : Ring Slot). with_value r.held inside.next
+    (record { id = c.args.id; date = c.args.date; item = c.args.item; emitted = None })) rest)
 
-pub returns-in-Ok-clause-state : goal.returns-in-Ok-clause-state
-returns-in-Ok-clause-state c =
+pub returns-clause-answer : goal.returns-clause-answer
+returns-clause-answer c =
     let inside = c.self.inside in
+    let low = c.base.ensures.value
+    ∙ base-lowest inside.window inside.next inside.cursor inside.due inside.dues inside.slots
+    c.base.ensures.sound c.self.invariant in
+    inl (rw (
+      ← c.self.view_is,
+      ← low,
+      ne_eqb inside.next 9223372036854775807 c.if-self.false,
+      ne_eqb (inside.next - c.base.result) inside.window c.if-span-self.false,
+    ) refl)
+
+pub returns-clause-state : goal.returns-clause-state
+returns-clause-state c =
+    let inside = c.self.inside in
+    let rest = c.in-Ok.ensures.rest in
+    let state = c.set-none.ensures.state in
     rw (← c.self.view_is)
     (ap (λ (ps : List Pending). record {
       window = inside.window;
       next = inside.next + 1;
       pending = ps;
       dues = inside.dues;
-    }) (inserted c))
-
-pub returns-clause-answer : goal.returns-clause-answer
-returns-clause-answer c =
-    inr (ap (λ (e : ℕ × Slot). Kept.NoMemory e.1.item) c.in-Err.ensures.value_returned
-    ∙ ap (λ (p : Pending). Kept.NoMemory p.item) (c.new.ensures 0))
+    })
+    (messages-put inside.window inside.next inside.cursor inside.due inside.dues inside.slots
+    c.args.item c.args.id c.args.date
+    (record { id = c.args.id; date = c.args.date; item = c.args.item; emitted = None })
+    c.set-none.new.self c.self.invariant refl
+    (ap (λ r. r.base) state ∙ ap (λ r. r.base) rest)
+    (ap (λ r. r.held) state ∙ ap (λ (r : Ring Slot). with_value r.held inside.next
+    (record { id = c.args.id; date = c.args.date; item = c.args.item; emitted = None })) rest)))

@@ -1,8 +1,8 @@
-use Rattle.std.proofs.Common.{Some, ◌%◌, ◌∙◌, ap, arith}
+use Rattle.std.proofs.Common.{Some, set, ◌%◌, ◌∙◌, ap, arith}
 use Rattle.std.proofs.lemmas.List.{length-set}
 use Rattle.slot_ring.specs.Inside.{slot_at}
 use Rattle.slot_ring.proofs.NumberedLemmas.{length-numbered-le, one_if}
-use Rattle.slot_ring.proofs.SlotLemmas.{bool_byte-is_none, length-changed, numbered-written, value_with-slot}
+use Rattle.slot_ring.proofs.SlotLemmas.{IsRing-numbered, bool_byte-is_none, length-changed, numbered-written, value_with-slot, value_with-written}
 use Rattle.slot_ring.proofs.ring.SlotRing.set.Goals as goal
 
 pub overflow_add-self : goal.overflow_add-self
@@ -56,3 +56,20 @@ returns-clause-state g c =
     (ap (λ k. c.args.number % k) c.len.ensures) in
     rw (← c.self.view_is, c.replace-replaced.ensures.after)
     (ap (λ es. record { base = inside.base; capacity = inside.slots.len; held = es }) held)
+
+pub returns-clause-sound : goal.returns-clause-sound
+returns-clause-sound g c =
+    let inside = c.self.inside in
+    IsRing-numbered
+    (slot_at inside.slots.len
+    (set inside.slots.items (c.args.number % c.len.result) c.replace-replaced.new.self))
+    inside.base inside.slots.len
+
+pub returns-clause-found : goal.returns-clause-found
+returns-clause-found g c =
+    let inside = c.self.inside in
+    let room = rw (← c.self.view_is) at c.requires in
+    rw (← c.self.view_is, c.replace-replaced.ensures.after)
+    (value_with-written inside.slots.items inside.slots.len inside.base c.args.number
+    (c.args.number % c.len.result) c.args.value c.self.invariant.sized room.0 room.1
+    (ap (λ k. c.args.number % k) c.len.ensures))
