@@ -1,5 +1,5 @@
 -- Early items: those that an end keeps are those that its history tells, in some order.
-use Rattle.std.proofs.Common.{◌≡◌, ◌≢◌, ℕ, ◌<◌, ◌≤◌, suc, Bool, true, false, cond, not, Option, Some, None, List, [], ◌∷◌, ◌++◌, ⊎_elim, refl, sym, ap, subst, ◌∙◌, arith, eqb, filter, ltb}
+use Rattle.std.proofs.Common.{◌≡◌, ◌≢◌, ℕ, ◌<◌, ◌≤◌, Bool, true, false, cond, not, Option, Some, None, List, [], ◌∷◌, ◌++◌, ⊎_elim, refl, sym, ap, subst, ◌∙◌, arith, eqb, filter, ltb}
 use Rattle.std.specs.List.{Contains}
 use Rattle.std.specs.List.Sorted.{IsPermutation}
 use Rattle.std.proofs.lemmas.Bool.{cases_Bool, cases_eq, cases_lt, eq-eqb, eqb-false, eqb-true, le-ltb, lt-ltb, ne_eqb}
@@ -13,25 +13,11 @@ use Rattle.channel_core.specs.History.{early_items, next_in_order, taken_items}
 use Rattle.channel_core.specs.Legal.{IsLegal}
 use Rattle.channel_core.specs.Numbers.{has_number, least_absent, numbers_of}
 use Rattle.channel_core.specs.Stands.{EndState, Stands}
-use Rattle.channel_core.proofs.ItemLemmas.{item_with-contains}
+use Rattle.channel_core.proofs.ItemLemmas.{different_behind, first_apart, item_with-contains}
 use Rattle.channel_core.proofs.NumberLemmas.{cases_option, least_absent-is}
 use Rattle.channel_core.proofs.SoundLemmas.{sound}
 
 -- ---- items with different numbers
-
--- the first differs from each behind it
-first_apart : (p : ℕ × Item) (ps : List (ℕ × Item)) (n : ℕ) (item : Item)
-    → AreDifferent (p ∷ ps)
-    → Contains ps (n, item)
-    → p.0 ≢ n
-first_apart p ps n item different there =
-    subst
-    (λ (q : ℕ × Item). p.0 ≢ q.0) there.2
-    (different 0 (suc there.0) (n, item) (omega arith) (let inside = there.1 in omega arith))
-
-different_behind : (p : ℕ × Item) (ps : List (ℕ × Item)) → AreDifferent (p ∷ ps) → AreDifferent ps
-different_behind p ps different i j d less within =
-    different (suc i) (suc j) d (omega arith) (omega arith)
 
 -- an item that stands there is looked up by its number
 item_with-found : (ps : List (ℕ × Item)) (n : ℕ) (item : Item)
@@ -50,7 +36,7 @@ item_with-found (p ∷ ps) n item different there =
     rw (eq-eqb n p.0 number) (ap (λ (i : Item). Some i) value))
     (Contains-push_cases [] p (n, item) only))
     (λ (behind : Contains ps (n, item)).
-    let other : n ≢ p.0 = λ is. first_apart p ps n item different behind (sym is) in
+    let other : n ≢ p.0 = λ is. first_apart p ps (n, item) different behind (sym is) in
     rw (ne_eqb n p.0 other) (item_with-found ps n item (different_behind p ps different) behind))
     (Contains-append_cases (p ∷ []) ps (n, item) there)
 
@@ -112,7 +98,7 @@ filter-only (p ∷ ps) n item different is =
     (λ (none : item_with ps n ≡ None). none)
     (λ (some : (i : Item) × (item_with ps n ≡ Some i)).
     absurd
-    (first_apart p ps n some.0 different (item_with-contains ps n some.0 some.1) (sym number)))
+    (first_apart p ps (n, some.0) different (item_with-contains ps n some.0 some.1) (sym number)))
     (cases_option (item_with ps n)) in
     rw (here, filter-absent ps n none) (rw (number, value) refl))
     (λ (other : eqb n p.0 ≡ false).
@@ -141,7 +127,8 @@ same_items (p ∷ ps) qs different_p different_q same =
     = ⊎_elim
     (λ (none : item_with ps p.0 ≡ None). none)
     (λ (some : (i : Item) × (item_with ps p.0 ≡ Some i)).
-    absurd (first_apart p ps p.0 some.0 different_p (item_with-contains ps p.0 some.0 some.1) refl))
+    absurd (first_apart p ps (p.0, some.0) different_p
+    (item_with-contains ps p.0 some.0 some.1) refl))
     (cases_option (item_with ps p.0)) in
     let alike : (n : ℕ) → item_with ps n ≡ item_with rest n
     = λ n. ⊎_elim

@@ -1,6 +1,6 @@
 -- Numbered items: look-up by number, and the items between two numbers.
 use Rattle.std.proofs.Common.{◌≡◌, ◌≢◌, ℕ, ◌+◌, ◌-◌, ◌<◌, ◌≤◌, zero, suc, true, false, Option, Some, List, [], ◌∷◌, ◌++◌, take, drop, ⊎_elim, refl, sym, ap, subst, ◌∙◌, arith, eqb}
-use Rattle.std.specs.List.{All, AllByRecursion, Contains, cons_option, filter_map, range_with_len, slice_get}
+use Rattle.std.specs.List.{All, AllByRecursion, AllPairs, Contains, cons_option, filter_map, range_with_len, slice_get}
 use Rattle.std.proofs.lemmas.Bool.{cases_Bool, eqb-false, eqb-true, or_parts}
 use Rattle.std.proofs.lemmas.List.{drop_more, map-append}
 use Rattle.std.proofs.lemmas.List.Elements.{All-cons, All-nil, Contains-append_right, filter_map-append}
@@ -163,3 +163,22 @@ items_in_order-join ps n item =
     ∙ sym
     (ap (filter_map (item_with qs)) split
     ∙ filter_map-append (item_with qs) old more)
+
+-- ---- pairs with different numbers
+
+-- the first differs from each behind it
+pub first_apart : {X : Type 0} (p : ℕ × X) (ps : List (ℕ × X)) (q : ℕ × X)
+    → AllPairs (λ p q. p.0 ≢ q.0) (p ∷ ps)
+    → Contains ps q
+    → p.0 ≢ q.0
+first_apart {X} p ps q different there =
+    subst
+    (λ (r : ℕ × X). p.0 ≢ r.0) there.2
+    (different 0 (suc there.0) q (omega arith) (let inside = there.1 in omega arith))
+
+-- and those behind it differ
+pub different_behind : {X : Type 0} (p : ℕ × X) (ps : List (ℕ × X))
+    → AllPairs (λ p q. p.0 ≢ q.0) (p ∷ ps)
+    → AllPairs (λ p q. p.0 ≢ q.0) ps
+different_behind p ps different i j d less within =
+    different (suc i) (suc j) d (omega arith) (omega arith)

@@ -1,9 +1,10 @@
 -- What is owed: each number once, since its message was heard, and in the order of hearing.
-use Rattle.std.proofs.Common.{◌≡◌, ◌≢◌, suc, ℕ, ◌<◌, ◌≤◌, Bool, true, false, not, ◌||◌, List, [], ◌∷◌, ◌++◌, inl, inr, ⊎_elim, refl, sym, ap, subst, ◌∙◌, append_assoc, arith, drop, eqb, length, ltb, map, max}
-use Rattle.std.specs.List.{All, AllPairs, cons_option, filter_map, list_any}
-use Rattle.std.proofs.lemmas.Bool.{both_ways, cases_eq, cases_lt, cond_both, eq-eqb, le-ltb, lt-ltb, ne_eqb, not-true, or_cases, or_parts, or_right}
-use Rattle.std.proofs.lemmas.List.{append-nil, map-append}
-use Rattle.std.proofs.lemmas.List.Elements.{All-cons, All-head, All-nil, All-tail, filter_map-append}
+use Rattle.std.proofs.Common.{◌≡◌, ◌≢◌, ◌↔◌, ◌⊎◌, ℕ, Bool, true, false, not, ◌||◌, List, [], ◌∷◌, ◌++◌, inl, inr, ⊎_elim, refl, sym, ap, subst, ◌∙◌, append_assoc, arith, drop, eqb, get_or, length, ltb, max}
+use Rattle.std.specs.List.{All, AllPairs, Contains, cons_option, filter_map, list_any}
+use Rattle.std.proofs.lemmas.Bool.{both_ways, cond_both, eq-eqb, lt-ltb, ltb-true, ne_eqb, not-false, or_cases, or_parts}
+use Rattle.std.proofs.lemmas.List.{append-nil}
+use Rattle.std.proofs.lemmas.List.Elements.{All-cons, All-nil, Contains-append_cases, Contains-append_left, Contains-append_right, Contains-push, Contains-push_cases, filter_map-append}
+use Rattle.std.proofs.lemmas.List.Folds.{list_any_none}
 use Rattle.std.proofs.lemmas.List.Quantifiers.{all_pairs_push}
 use Rattle.chan_values.specs.declared.item.Item.{Item}
 use Rattle.channel_core.specs.declared.call.EndAnswer.{EndAnswer}
@@ -13,40 +14,39 @@ use Rattle.channel_core.specs.declared.message.Incoming.{Incoming}
 use Rattle.channel_core.specs.declared.message.Outgoing.{Outgoing}
 use Rattle.channel_core.specs.declared.answer.Pull.{Pull}
 use Rattle.channel_core.specs.Call.{Entry}
-use Rattle.channel_core.specs.History.{ack_of, emitted_acks, emissions, message_emitted, owed_acks, owed_after, owed_numbers, owed_with, taken_items}
+use Rattle.channel_core.specs.History.{ack_of, emitted_acks, emissions, message_emitted, owed_acks, owed_after, owed_with, taken_items}
 use Rattle.channel_core.specs.Laws.{AcksKeepTheirOrder, EachNumberIsOwedOnce, IsPrefixOf, OwedIsHeardLast}
 use Rattle.channel_core.specs.Legal.{IsAnswered, IsLegal, items_released_by}
-use Rattle.channel_core.specs.Numbers.{has_number}
 use Rattle.channel_core.specs.Since.{FindsRoom, IsAckOf, IsTakenOrLate}
 use Rattle.channel_core.proofs.HistoryLemmas.{by_pushes, emissions-push, owed_acks-push}
+use Rattle.channel_core.proofs.ItemLemmas.{different_behind, first_apart}
 use Rattle.channel_core.proofs.LegalLemmas.{IsLegal-pushed, IsQuiet, by_cases}
-use Rattle.channel_core.proofs.NumberLemmas.{has_number-last, has_number-other}
-use Rattle.channel_core.proofs.SinceLemmas.{Turns, since_is}
+use Rattle.channel_core.proofs.SinceLemmas.{since_holds}
 
 -- the acknowledgements of an end: number and MessageId
 abbrev Acks : Type 0
 Acks = List (ℕ × List ℕ)
 
--- the numbers of them
-abbrev numbers : Acks → List ℕ
-numbers acks = map (λ p. p.0) acks
-
 -- ---- each number once
 
--- whether a number is owed, either way
-list_any-numbers : (acks : Acks) (n : ℕ)
-    → list_any (λ p. eqb n p.0) acks ≡ has_number (numbers acks) n
-list_any-numbers [] n = refl
-list_any-numbers (p ∷ acks) n = ap (λ (b : Bool). eqb n p.0 || b) (list_any-numbers acks n)
-
--- a number that is not owed differs from those that are
-apart_from : (acks : Acks) (n : ℕ) → has_number (numbers acks) n ≡ false → All (λ p. p.0 ≢ n) acks
-apart_from [] n absent = All-nil (λ (p : ℕ × List ℕ). p.0 ≢ n)
-apart_from (p ∷ acks) n absent =
-    let parts = or_parts (eqb n p.0) (has_number (numbers acks) n) absent in
+-- a number that is looked for in vain differs from those that are owed
+absent_from : (acks : Acks) (n : ℕ)
+    → list_any (λ p. eqb n p.0) acks ≡ false
+    → All (λ p. p.0 ≢ n) acks
+absent_from [] n absent = All-nil (λ (p : ℕ × List ℕ). p.0 ≢ n)
+absent_from (p ∷ acks) n absent =
+    let parts = or_parts (eqb n p.0) (list_any (λ (q : ℕ × List ℕ). eqb n q.0) acks) absent in
     All-cons (λ (q : ℕ × List ℕ). q.0 ≢ n) p acks
-    (λ same. let yes = eq-eqb n p.0 (sym same) in both_ways (eqb n p.0) parts.0 yes)
-    (apart_from acks n parts.1)
+    (λ same. both_ways (eqb n p.0) parts.0 (eq-eqb n p.0 (sym same)))
+    (absent_from acks n parts.1)
+
+-- and the other way round
+absent_is : (acks : Acks) (n : ℕ)
+    → All (λ p. p.0 ≢ n) acks
+    → list_any (λ p. eqb n p.0) acks ≡ false
+absent_is acks n apart =
+    list_any_none (λ (p : ℕ × List ℕ). eqb n p.0) acks
+    (λ i d inside. ne_eqb n (get_or acks i d).0 (λ same. apart i d inside (sym same)))
 
 -- what is owed behind the others is new
 different_with : (w : ℕ) (acks : Acks) (n : ℕ) (id : List ℕ)
@@ -59,20 +59,14 @@ different_with w acks n id different =
     (λ _. different)
     (λ new. all_pairs_push
     (λ (p q : ℕ × List ℕ). p.0 ≢ q.0) acks (n, id) different
-    (apart_from acks n (sym (list_any-numbers acks n) ∙ (or_parts there _ new).0)))
+    (absent_from acks n (or_parts there _ new).0))
 
 -- and all others stay different
-different_tail : (p : ℕ × List ℕ) (acks : Acks)
-    → AllPairs (λ p q. p.0 ≢ q.0) (p ∷ acks)
-    → AllPairs (λ p q. p.0 ≢ q.0) acks
-different_tail p acks different i j d less within =
-    different (suc i) (suc j) d (omega arith) (omega arith)
-
 different_drop : (acks : Acks)
     → AllPairs (λ p q. p.0 ≢ q.0) acks
     → AllPairs (λ p q. p.0 ≢ q.0) (drop 1 acks)
 different_drop [] different = different
-different_drop (p ∷ acks) different = different_tail p acks different
+different_drop (p ∷ acks) different = different_behind p acks different
 
 different_after : (w : ℕ) (acks : Acks) (answer : EndAnswer) (call : EndCall)
     → AllPairs (λ p q. p.0 ≢ q.0) acks
@@ -98,21 +92,6 @@ each_number_is_owed_once w =
 
 -- ---- since its message was heard
 
--- the first number is not among the others
-absent_behind : (p : ℕ × List ℕ) (acks : Acks)
-    → AllPairs (λ p q. p.0 ≢ q.0) (p ∷ acks)
-    → has_number (numbers acks) p.0 ≡ false
-absent_behind p acks different =
-    absent acks (λ i d inside. different 0 (suc i) d (omega arith) (omega arith))
-  where
-    absent : (acks : Acks)
-        → All (λ (q : ℕ × List ℕ). p.0 ≢ q.0) acks
-        → has_number (numbers acks) p.0 ≡ false
-    absent [] apart = refl
-    absent (q ∷ acks) apart =
-        rw (ne_eqb p.0 q.0 (All-head (λ (q : ℕ × List ℕ). p.0 ≢ q.0) q acks apart))
-        (absent acks (All-tail (λ (q : ℕ × List ℕ). p.0 ≢ q.0) q acks apart))
-
 -- a message that was taken or came late is owed
 owed_after-heard : (w : ℕ) (acks : Acks) (now n : ℕ) (id : List ℕ) (item : Item)
     (answer : EndAnswer)
@@ -122,183 +101,204 @@ owed_after-heard : (w : ℕ) (acks : Acks) (now n : ℕ) (id : List ℕ) (item :
 owed_after-heard w acks now n id item answer (inl taken) = rw taken.1 refl
 owed_after-heard w acks now n id item answer (inr late) = rw late refl
 
--- with room it is owed then
-owed_with-room : (w : ℕ) (acks : Acks) (n : ℕ) (id : List ℕ)
-    → length acks < w
-    → has_number (numbers (owed_with w acks n id)) n ≡ true
-owed_with-room w acks n id room =
-    let there = list_any (λ (p : ℕ × List ℕ). eqb n p.0) acks in
-    let fits : ltb (length acks) w ≡ true = lt-ltb (length acks) w room in
-    cond_both (there || not (ltb (length acks) w)) acks (acks ++ (n, id) ∷ [])
-    (λ (l : Acks). has_number (numbers l) n ≡ true)
-    (λ either. sym (list_any-numbers acks n) ∙ ⊎_elim
-    (λ (is : there ≡ true). is)
-    (λ (full : not (ltb (length acks) w) ≡ true).
-    let never = not-true (ltb (length acks) w) full in
-    absurd (both_ways (ltb (length acks) w) never fits))
-    (or_cases there (not (ltb (length acks) w)) either))
-    (λ _. ap (λ (l : List ℕ). has_number l n)
-    (map-append (λ (p : ℕ × List ℕ). p.0) acks ((n, id) ∷ []))
-    ∙ has_number-last (numbers acks) n)
+-- where nothing is added or paid, the same is owed
+stays : {Finds Pays : Type 0} (after acks : Acks) (x : ℕ × List ℕ)
+    → after ≡ acks
+    → ¬ Finds
+    → ¬ Pays
+    → Contains after x ↔ (Finds ⊎ ((¬ Pays) × Contains acks x))
+stays {Finds} {Pays} after acks x same found pays = (
+  λ there. inr (pays, subst (λ (l : Acks). Contains l x) same there),
+  λ either. ⊎_elim
+      (λ (finds : Finds). absurd (found finds))
+      (λ (kept : (¬ Pays) × Contains acks x). subst (λ (l : Acks). Contains l x) (sym same) kept.1)
+      either,
+)
 
--- without room nothing is
-owed_with-full : (w : ℕ) (acks : Acks) (n : ℕ) (id : List ℕ)
-    → w ≤ length acks
-    → owed_with w acks n id ≡ acks
-owed_with-full w acks n id full =
-    let there = list_any (λ (p : ℕ × List ℕ). eqb n p.0) acks in
-    rw (le-ltb (length acks) w full, or_right there true refl) refl
-
--- and another number is owed as before
-owed_with-other : (w : ℕ) (acks : Acks) (k : ℕ) (id : List ℕ) (n : ℕ)
-    → n ≢ k
-    → has_number (numbers (owed_with w acks k id)) n ≡ has_number (numbers acks) n
-owed_with-other w acks k id n apart =
-    let there = list_any (λ (p : ℕ × List ℕ). eqb k p.0) acks in
-    cond_both (there || not (ltb (length acks) w)) acks (acks ++ (k, id) ∷ [])
-    (λ (l : Acks). has_number (numbers l) n ≡ has_number (numbers acks) n)
-    (λ _. refl)
-    (λ _. ap (λ (l : List ℕ). has_number l n)
-    (map-append (λ (p : ℕ × List ℕ). p.0) acks ((k, id) ∷ []))
-    ∙ has_number-other (numbers acks) k n apart)
-
--- how a call and its answer change whether a number is owed
-abbrev OwedTurns : ℕ → ℕ → List Entry → EndCall → EndAnswer → Type 0
-OwedTurns w n h call answer =
+-- how a call and its answer change whether an acknowledgement is owed
+abbrev OwedStep : ℕ → ℕ → List ℕ → List Entry → EndCall → EndAnswer → Type 0
+OwedStep w n id h call answer =
     let e : Entry = record { call = call; answer = answer } in
-    Turns (FindsRoom w n h e) (IsAckOf n e)
-    (has_number (owed_numbers w h) n)
-    (has_number (numbers (owed_after w (owed_acks w h) answer call)) n)
+    Contains (owed_after w (owed_acks w h) answer call) (n, id)
+    ↔ (FindsRoom w n id h e ⊎ ((¬ IsAckOf n e) × Contains (owed_acks w h) (n, id)))
 
 -- a message that was taken or came late
-heard_turns : (w n : ℕ) (h : List Entry) (now k : ℕ) (id : List ℕ) (item : Item)
+heard_step : (w n : ℕ) (id : List ℕ) (h : List Entry) (now k : ℕ) (id' : List ℕ) (item : Item)
     (answer : EndAnswer)
     → IsTakenOrLate answer
     → (¬ IsAckOf n
-    (record { call = EndCall.Heard now (Incoming.Stream k id item); answer = answer }))
-    → OwedTurns w n h (EndCall.Heard now (Incoming.Stream k id item)) answer
-heard_turns w n h now k id item answer heard no_ack =
-    let acks = owed_acks w h in
-    let after = owed_after-heard w acks now k id item answer heard in
-    let told : has_number (numbers (owed_after w acks answer
-    (EndCall.Heard now (Incoming.Stream k id item)))) n
-    ≡ has_number (numbers (owed_with w acks k id)) n
-    = ap (λ (l : Acks). has_number (numbers l) n) after in
-    ⊎_elim
-    (λ (same : k ≡ n).
-    ⊎_elim
-    (λ (room : length acks < w).
-    inl (
-      record {
-        now = now;
-        id = id;
-        item = item;
-        call = rw same refl;
-        answer = heard;
-        room = room;
-      },
-      told ∙ rw same (owed_with-room w acks n id room),
+    (record { call = EndCall.Heard now (Incoming.Stream k id' item); answer = answer }))
+    → OwedStep w n id h (EndCall.Heard now (Incoming.Stream k id' item)) answer
+heard_step w n id h now k id' item answer heard no_ack =
+    subst
+    (λ (l : Acks). Contains l (n, id) ↔ Rest)
+    (sym (owed_after-heard w acks now k id' item answer heard))
+    (cond_both (there || full) acks (acks ++ (k, id') ∷ [])
+    (λ (l : Acks). Contains l (n, id) ↔ Rest)
+    (λ either. (
+      λ owed. inr (no_ack, owed),
+      λ rest. ⊎_elim
+          (λ (finds : FindsRoom w n id h e). absurd (no_room finds either))
+          (λ (kept : (¬ IsAckOf n e) × Contains acks (n, id)). kept.1)
+          rest,
     ))
-    (λ (full : w ≤ length acks).
-    inr
-    (inr (
-      λ finds. let room = finds.room in omega arith,
-      no_ack,
-      told ∙ ap (λ (l : Acks). has_number (numbers l) n) (owed_with-full w acks k id full),
+    (λ free. (
+      λ owed. ⊎_elim
+          (λ (before : Contains acks (n, id)). inr (no_ack, before))
+          (λ (new : ◌≡◌ {A = ℕ × List ℕ} (k, id') (n, id)). inl (found new free))
+          (Contains-push_cases acks (k, id') (n, id) owed),
+      λ rest. ⊎_elim
+          (λ (finds : FindsRoom w n id h e).
+          let is = finds.call in
+          let number : k ≡ n = cc in
+          let ids : id' ≡ id = cc in
+          rw (number, ids) (Contains-push acks (n, id)))
+          (λ (kept : (¬ IsAckOf n e) × Contains acks (n, id)).
+          Contains-append_left acks ((k, id') ∷ []) (n, id) kept.1)
+          rest,
     )))
-    (cases_lt (length acks) w))
-    (λ (apart : k ≢ n).
-    inr
-    (inr (
-      λ finds. let is = finds.call in apart cc,
-      no_ack,
-      told ∙ owed_with-other w acks k id n (λ is. apart (sym is)),
-    )))
-    (cases_eq k n)
+  where
+    acks : Acks
+    acks = owed_acks w h
 
--- the first that is owed is paid
-paid_turns : (w n : ℕ) (h : List Entry) (now : ℕ) (p : ℕ × List ℕ) (acks : Acks)
-    → owed_acks w h ≡ p ∷ acks
-    → AllPairs (λ p q. p.0 ≢ q.0) (owed_acks w h)
-    → OwedTurns w n h (EndCall.Pull now)
-    (EndAnswer.Pull (Pull.Emit (Outgoing.Ack p.0 p.1 (max now 1))))
-paid_turns w n h now p acks is different =
-    let paid : numbers (drop 1 (owed_acks w h)) ≡ numbers acks
-    = ap (λ (l : Acks). numbers (drop 1 l)) is in
-    let told = ap (λ (l : List ℕ). has_number l n) paid in
-    ⊎_elim
-    (λ (same : p.0 ≡ n).
-    inr
-    (inl (
-      λ finds. let is = finds.call in cc,
-      (p.1, max now 1, rw same refl),
-      told
-          ∙ subst
-          (λ (k : ℕ). has_number (numbers acks) k ≡ false) same
-          (absent_behind p acks (subst (AllPairs (λ (p q : ℕ × List ℕ). p.0 ≢ q.0)) is different)),
-    )))
-    (λ (apart : p.0 ≢ n).
-    let other : eqb n p.0 ≡ false = ne_eqb n p.0 (λ same. apart (sym same)) in
-    inr
-    (inr (
-      λ finds. let is = finds.call in cc,
-      λ ack. let is = ack.2 in apart cc,
-      told
-          ∙ ap (λ (b : Bool). b || has_number (numbers acks) n) (sym other)
-          ∙ ap (λ (l : Acks). has_number (numbers l) n) (sym is),
-    )))
-    (cases_eq p.0 n)
+    e : Entry
+    e = record { call = EndCall.Heard now (Incoming.Stream k id' item); answer = answer }
 
--- an answer to a pull is no acknowledgement, and an answer to something else owes nothing
-owed_turns : (w n : ℕ) (h : List Entry) (call : EndCall) (answer : EndAnswer)
+    Rest : Type 0
+    Rest = FindsRoom w n id h e ⊎ ((¬ IsAckOf n e) × Contains acks (n, id))
+
+    there : Bool
+    there = list_any (λ (p : ℕ × List ℕ). eqb k p.0) acks
+
+    full : Bool
+    full = not (ltb (length acks) w)
+
+    no_room : FindsRoom w n id h e → (there || full) ≡ true → ⊥
+    no_room finds either =
+        let is = finds.call in
+        let number : n ≡ k = cc in
+        let absent = absent_is acks k
+        (subst (λ (j : ℕ). All (λ (p : ℕ × List ℕ). p.0 ≢ j) acks) number finds.new) in
+        let room : full ≡ false = ap not (lt-ltb (length acks) w finds.room) in
+        ⊎_elim
+        (λ (is : there ≡ true). both_ways there absent is)
+        (λ (is : full ≡ true). both_ways full room is)
+        (or_cases there full either)
+
+    found : ◌≡◌ {A = ℕ × List ℕ} (k, id') (n, id) → (there || full) ≡ false → FindsRoom w n id h e
+    found same free =
+        let number : k ≡ n = ap (λ (p : ℕ × List ℕ). p.0) same in
+        let ids : id' ≡ id = ap (λ (p : ℕ × List ℕ). p.1) same in
+        let parts = or_parts there full free in
+        record {
+          now = now;
+          item = item;
+          call = rw (number, ids) refl;
+          answer = heard;
+          room = ltb-true (length acks) w (not-false (ltb (length acks) w) parts.1);
+          new = subst
+              (λ (j : ℕ). All (λ (p : ℕ × List ℕ). p.0 ≢ j) acks) number
+              (absent_from acks k parts.0);
+        }
+
+-- the first that is owed is paid, and no other
+paid_step : (w n : ℕ) (id : List ℕ) (h : List Entry) (now : ℕ) (p : ℕ × List ℕ) (rest : Acks)
+    → owed_acks w h ≡ p ∷ rest
+    → OwedStep w n id h
+    (EndCall.Pull now) (EndAnswer.Pull (Pull.Emit (Outgoing.Ack p.0 p.1 (max now 1))))
+paid_step w n id h now p rest is = (
+  λ owed.
+      let behind = subst (λ (l : Acks). Contains (drop 1 l) (n, id)) is owed in
+      inr (
+        not_paid behind,
+        subst (λ (l : Acks). Contains l (n, id)) (sym is)
+            (Contains-append_right (p ∷ []) rest (n, id) behind),
+      ),
+  λ either. subst (λ (l : Acks). Contains (drop 1 l) (n, id)) (sym is) (⊎_elim
+      (λ (finds : FindsRoom w n id h e). let never = finds.call in cc)
+      (λ (kept : (¬ IsAckOf n e) × Contains (owed_acks w h) (n, id)).
+      later kept.0 (subst (λ (l : Acks). Contains l (n, id)) is kept.1))
+      either),
+)
+  where
+    e : Entry
+    e =
+        record {
+          call = EndCall.Pull now;
+          answer = EndAnswer.Pull (Pull.Emit (Outgoing.Ack p.0 p.1 (max now 1)));
+        }
+
+    not_paid : Contains rest (n, id) → ¬ IsAckOf n e
+    not_paid behind ack =
+        let told = ack.2 in
+        let same : p.0 ≡ n = cc in
+        first_apart p rest (n, id)
+        (subst
+        (AllPairs (λ (p q : ℕ × List ℕ). p.0 ≢ q.0)) is (each_number_is_owed_once w h)) behind same
+
+    later : (¬ IsAckOf n e) → Contains (p ∷ rest) (n, id) → Contains rest (n, id)
+    later unpaid owed =
+        ⊎_elim
+        (λ (only : Contains (p ∷ []) (n, id)).
+        ⊎_elim
+        (λ (never : Contains [] (n, id)). absurd (let inside = never.1 in omega arith))
+        (λ (first : p ≡ (n, id)).
+        let same : p.0 ≡ n = ap (λ (q : ℕ × List ℕ). q.0) first in
+        absurd (unpaid (p.1, max now 1, rw same refl)))
+        (Contains-push_cases [] p (n, id) only))
+        (λ (behind : Contains rest (n, id)). behind)
+        (Contains-append_cases (p ∷ []) rest (n, id) owed)
+
+owed_steps : (w n : ℕ) (id : List ℕ) (h : List Entry) (call : EndCall) (answer : EndAnswer)
     → IsAnswered w h call answer
-    → OwedTurns w n h call answer
-owed_turns w n h call answer answered =
-    by_cases w h (OwedTurns w n h)
+    → OwedStep w n id h call answer
+owed_steps w n id h call answer answered =
+    let acks = owed_acks w h in
+    by_cases w h (OwedStep w n id h)
     (record {
       quiet = λ call answer quiet.
-          inr
-          (inr (
-            λ finds. owes call answer quiet finds,
-            λ ack. let emitted = quiet.emitted in let is = ap message_emitted ack.2 in cc,
-            ap (λ (l : Acks). has_number (numbers l) n) (quiet.owed w (owed_acks w h)),
-          ));
-      seq = λ item id now apart.
-          inr (inr (λ finds. let is = finds.call in cc, λ ack. let is = ack.2 in cc, refl));
-      late = λ now k id item there.
-          heard_turns w n h now k id item (EndAnswer.Heard Heard.Late) (inr refl)
+          stays (owed_after w acks answer call) acks (n, id) (quiet.owed w acks)
+          (owes call answer quiet)
+          (λ ack. let emitted = quiet.emitted in let is = ap message_emitted ack.2 in cc);
+      seq = λ item id' now apart.
+          stays acks acks (n, id) refl
+          (λ finds. let is = finds.call in cc) (λ ack. let is = ack.2 in cc);
+      late = λ now k id' item there.
+          heard_step w n id h now k id' item (EndAnswer.Heard Heard.Late) (inr refl)
           (λ ack. let is = ack.2 in cc);
-      released = λ now k id item absent near.
+      released = λ now k id' item absent near.
           let items = items_released_by (taken_items h) k item in
-          heard_turns w n h now k id item (EndAnswer.Heard (Heard.Released items))
-          (inl (items, refl))
-          (λ ack. let is = ack.2 in cc);
+          heard_step w n id h now k id' item (EndAnswer.Heard (Heard.Released items))
+          (inl (items, refl)) (λ ack. let is = ack.2 in cc);
       acked = λ now k out before.
-          inr (inr (λ finds. let is = finds.call in cc, λ ack. let is = ack.2 in cc, refl));
-      emit_ack = λ now p acks is.
-          paid_turns w n h now p acks is (each_number_is_owed_once w h);
+          stays acks acks (n, id) refl
+          (λ finds. let is = finds.call in cc) (λ ack. let is = ack.2 in cc);
+      emit_ack = λ now p rest is. paid_step w n id h now p rest is;
       emit_stream = λ now k m below eligible is.
-          inr (inr (λ finds. let is = finds.call in cc, λ ack. let is = ack.2 in cc, refl));
+          stays acks acks (n, id) refl
+          (λ finds. let is = finds.call in cc) (λ ack. let is = ack.2 in cc);
     }) call answer answered
   where
     owes : (call : EndCall) (answer : EndAnswer)
         → IsQuiet call answer
-        → FindsRoom w n h (record { call = call; answer = answer })
+        → FindsRoom w n id h (record { call = call; answer = answer })
         → ⊥
     owes call answer quiet finds =
         let none = quiet.owed 1 [] in
         let one = ap (owed_after 1 [] answer) finds.call in
-        let is = owed_after-heard 1 [] finds.now n finds.id finds.item answer finds.answer in
-        let never : ◌≡◌ {A = Acks} [] ((n, finds.id) ∷ []) = sym none ∙ one ∙ is in
+        let is = owed_after-heard 1 [] finds.now n id finds.item answer finds.answer in
+        let never : ◌≡◌ {A = Acks} [] ((n, id) ∷ []) = sym none ∙ one ∙ is in
         cc
 
 pub owed_is_heard_last : OwedIsHeardLast
 unfolding owed_acks
-owed_is_heard_last w h n =
-    since_is (IsLegal w) (FindsRoom w n) (IsAckOf n) (λ h. has_number (owed_numbers w h) n)
-    (λ h e legal. (IsLegal-pushed w h e legal).0) refl
+owed_is_heard_last w h n id =
+    since_holds (IsLegal w) (FindsRoom w n id) (IsAckOf n) (λ h. Contains (owed_acks w h) (n, id))
+    (λ h e legal. (IsLegal-pushed w h e legal).0)
+    (λ never. let inside = never.1 in omega arith)
     (λ h e legal.
-    rw (owed_acks-push w h e) (owed_turns w n h e.call e.answer (IsLegal-pushed w h e legal).1))
+    rw (owed_acks-push w h e)
+    (owed_steps w n id h e.call e.answer (IsLegal-pushed w h e legal).1))
     h
 
 -- ---- in the order of hearing

@@ -120,15 +120,69 @@ since-nil B E since =
     let parts = length-append since.before (since.entry ∷ since.after) in
     omega arith
 
+-- what each entry begins, or leaves unless it ends it, has been so since an entry
+pub since_holds : (Allowed : List Entry → Type 0)
+    (B : List Entry → Entry → Type 0) (E : Entry → Type 0) (F : List Entry → Type 0)
+    → ((h : List Entry) (e : Entry) → Allowed (h ++ e ∷ []) → Allowed h)
+    → ¬ F []
+    → ((h : List Entry) (e : Entry)
+    → Allowed (h ++ e ∷ [])
+    → F (h ++ e ∷ []) ↔ (B h e ⊎ ((¬ E e) × F h)))
+    → (h : List Entry)
+    → Allowed h
+    → F h ↔ IsSince B E h
+since_holds Allowed B E F front none step h =
+    by_pushes
+    (λ (h : List Entry). Allowed h → F h ↔ IsSince B E h)
+    (λ _. (λ is. absurd (none is), λ since. absurd (since-nil B E since)))
+    (λ h e before allowed. one h e (before (front h e allowed)) (step h e allowed))
+    h
+  where
+    one : (h : List Entry) (e : Entry)
+        → (F h ↔ IsSince B E h)
+        → (F (h ++ e ∷ []) ↔ (B h e ⊎ ((¬ E e) × F h)))
+        → F (h ++ e ∷ []) ↔ IsSince B E (h ++ e ∷ [])
+    one h e before step = (
+      λ is. ⊎_elim
+          (λ (begins : B h e). since-begins B E h e begins)
+          (λ (stays : (¬ E e) × F h). since-lasts B E h e (before.0 stays.1) stays.0)
+          (step.0 is),
+      λ since. step.1
+          (⊎_elim
+          (λ (begins : B h e). inl begins)
+          (λ (goes_on : (¬ E e) × IsSince B E h). inr (goes_on.0, before.1 goes_on.1))
+          (since-pushed B E h e since)),
+    )
+
 -- a flag that one entry more sets, clears or leaves
-abbrev pub Turns : Type 0 → Type 0 → Bool → Bool → Type 0
+abbrev Turns : Type 0 → Type 0 → Bool → Bool → Type 0
 Turns begins ends old new =
     (begins × (new ≡ true))
     ⊎ ((¬ begins) × ends × (new ≡ false))
     ⊎ ((¬ begins) × (¬ ends) × (new ≡ old))
 
--- a flag over legal histories that each entry turns so is set where it has been so since an entry
-pub since_is : (Allowed : List Entry → Type 0)
+-- it is set by what begins it, or was set and what comes does not end it
+turned : (begins ends : Type 0) (old new : Bool)
+    → Turns begins ends old new
+    → (new ≡ true) ↔ (begins ⊎ ((¬ ends) × (old ≡ true)))
+turned begins ends old new (inl set) = (λ _. inl set.0, λ _. set.1)
+turned begins ends old new (inr (inl cleared)) = (
+  λ is. absurd (both_ways new cleared.2 is),
+  λ either. ⊎_elim
+      (λ (is : begins). absurd (cleared.0 is))
+      (λ (stays : (¬ ends) × (old ≡ true)). absurd (stays.0 cleared.1))
+      either,
+)
+turned begins ends old new (inr (inr left)) = (
+  λ is. inr (left.1, sym left.2 ∙ is),
+  λ either. ⊎_elim
+      (λ (is : begins). absurd (left.0 is))
+      (λ (stays : (¬ ends) × (old ≡ true)). left.2 ∙ stays.1)
+      either,
+)
+
+-- such a flag is set where it has been so since an entry
+since_is : (Allowed : List Entry → Type 0)
     (B : List Entry → Entry → Type 0) (E : Entry → Type 0) (flag : List Entry → Bool)
     → ((h : List Entry) (e : Entry) → Allowed (h ++ e ∷ []) → Allowed h)
     → flag [] ≡ false
@@ -138,32 +192,9 @@ pub since_is : (Allowed : List Entry → Type 0)
     → (h : List Entry)
     → Allowed h
     → (flag h ≡ true) ↔ IsSince B E h
-since_is Allowed B E flag front none turns h =
-    by_pushes
-    (λ (h : List Entry). Allowed h → (flag h ≡ true) ↔ IsSince B E h)
-    (λ _. (λ is. absurd (both_ways (flag []) none is), λ since. absurd (since-nil B E since)))
-    (λ h e before allowed. one h e (before (front h e allowed)) (turns h e allowed))
-    h
-  where
-    one : (h : List Entry) (e : Entry)
-        → ((flag h ≡ true) ↔ IsSince B E h)
-        → Turns (B h e) (E e) (flag h) (flag (h ++ e ∷ []))
-        → (flag (h ++ e ∷ []) ≡ true) ↔ IsSince B E (h ++ e ∷ [])
-    one h e before (inl set) = (λ _. since-begins B E h e set.0, λ _. set.1)
-    one h e before (inr (inl cleared)) = (
-      λ is. absurd (both_ways (flag (h ++ e ∷ [])) cleared.2 is),
-      λ since. ⊎_elim
-          (λ (begins : B h e). absurd (cleared.0 begins))
-          (λ (goes_on : (¬ E e) × IsSince B E h). absurd (goes_on.0 cleared.1))
-          (since-pushed B E h e since),
-    )
-    one h e before (inr (inr left)) = (
-      λ is. since-lasts B E h e (before.0 (sym left.2 ∙ is)) left.1,
-      λ since. ⊎_elim
-          (λ (begins : B h e). absurd (left.0 begins))
-          (λ (goes_on : (¬ E e) × IsSince B E h). left.2 ∙ before.1 goes_on.1)
-          (since-pushed B E h e since),
-    )
+since_is Allowed B E flag front none turns =
+    since_holds Allowed B E (λ (h : List Entry). flag h ≡ true) front (both_ways (flag []) none)
+    (λ h e allowed. turned (B h e) (E e) (flag h) (flag (h ++ e ∷ [])) (turns h e allowed))
 
 -- every history is allowed
 abbrev Any_history : List Entry → Type 0

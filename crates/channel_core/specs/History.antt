@@ -121,10 +121,6 @@ owed_after w owed answer call = owed
 unfoldable pub owed_acks : ℕ → List Entry → List (ℕ × List ℕ)
 owed_acks w h = fold (λ owed e. owed_after w owed e.answer e.call) [] h
 
--- the numbers that are owed
-abbrev pub owed_numbers : ℕ → List Entry → List ℕ
-owed_numbers w h = map (λ p. p.0) (owed_acks w h)
-
 -- the acknowledgement that is given out: number and MessageId
 abbrev pub ack_of : Outgoing → Option (ℕ × List ℕ)
 ack_of (Outgoing.Stream m) = None

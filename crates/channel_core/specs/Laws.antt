@@ -11,7 +11,7 @@ use Rattle.channel_core.specs.declared.answer.Heard.TheVariants as Heard
 use Rattle.channel_core.specs.Call.{Entry}
 use Rattle.channel_core.specs.Condition.{CanBeEncoded, IsCallable}
 use Rattle.channel_core.specs.Exchange.{IsExchange, pull_count}
-use Rattle.channel_core.specs.History.{acked_numbers, emitted_acks, early_items, emissions, is_closed, is_paused, is_up, next_in_order, owed_acks, owed_numbers, put_items, released_items, taken_items, unacked_numbers}
+use Rattle.channel_core.specs.History.{acked_numbers, emitted_acks, early_items, emissions, is_closed, is_paused, is_up, next_in_order, owed_acks, put_items, released_items, taken_items, unacked_numbers}
 use Rattle.channel_core.specs.Legal.{IsAnswered, IsLegal}
 use Rattle.channel_core.specs.Numbers.{has_number}
 use Rattle.channel_core.specs.Resending.{marked_due, sent_since_opened}
@@ -44,13 +44,13 @@ MarkedIsDueLast =
     (h : List Entry) (n : ℕ)
     → (has_number (marked_due h) n ≡ true) ↔ IsSince (λ _. IsDueOf n) (IsEmissionOf n) h
 
--- a number is owed exactly where its message was taken or came late, with room to owe it, and its
--- acknowledgement was not given out since
+-- an acknowledgement is owed exactly where its message was taken or came late, with room to owe it,
+-- and its number was not acknowledged since
 abbrev pub OwedIsHeardLast : Type 0
 OwedIsHeardLast =
-    (w : ℕ) (h : List Entry) (n : ℕ)
+    (w : ℕ) (h : List Entry) (n : ℕ) (id : List ℕ)
     → IsLegal w h
-    → (has_number (owed_numbers w h) n ≡ true) ↔ IsSince (FindsRoom w n) (IsAckOf n) h
+    → Contains (owed_acks w h) (n, id) ↔ IsSince (FindsRoom w n id) (IsAckOf n) h
 
 -- no number is owed twice
 abbrev pub EachNumberIsOwedOnce : Type 0

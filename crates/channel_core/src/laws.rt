@@ -42,8 +42,8 @@ pub fn marked_is_due_last()
     ensures { MarkedIsDueLast }
 {}
 
-/// A number is owed exactly where its message was taken or came late, with room to owe it, and its
-/// acknowledgement was not given out since.
+/// An acknowledgement, by its number and MessageId, is owed exactly where its message was taken or
+/// came late, with room to owe it, and its number was not acknowledged since.
 pub fn owed_is_heard_last()
     ensures { OwedIsHeardLast }
 {}
