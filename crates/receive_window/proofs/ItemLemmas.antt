@@ -308,8 +308,8 @@ pub above_next : (early : Ring Item)
     → All (λ (e : ℕ × Item). early.base < e.0) early.held
 above_next early ring missing =
     let differ = numbers-all (λ k. k ≢ early.base) early.held
-        (λ k some same. not_some (item_with early.held k) (ap (item_with early.held) same ∙ missing)
-        some) in
+    (λ k some same. not_some (item_with early.held k) (ap (item_with early.held) same ∙ missing)
+    some) in
     λ k d below.
     let from = (ring.within k d below).0 in let other = differ k d below in omega arith
 
@@ -332,5 +332,5 @@ next_small n next held small all there =
     (λ (first : next < n + 2). omega arith)
     (λ (more : n + 2 ≤ next).
     let last = numbers-found (λ k. k < 2 ^ 63) held (next - 1) all
-        (there (next - 1) (omega arith) (omega arith)) in omega arith)
+    (there (next - 1) (omega arith) (omega arith)) in omega arith)
     (cases_lt next (n + 2))

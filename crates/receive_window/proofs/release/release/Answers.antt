@@ -30,7 +30,7 @@ unreachable-requires c =
     let low = c.releasing.auto.number in
     let none = sym c.remove.ensures.removed ∙ c.in_default.is in
     let here = sym (item_with-from number number early.held (omega arith))
-        ∙ sym (ap (λ (r : Ring Item). item_with r.held number) c.releasing.invariant.rest) ∙ none in
+    ∙ sym (ap (λ (r : Ring Item). item_with r.held number) c.releasing.invariant.rest) ∙ none in
     not_some (item_with early.held number) here
     (c.requires.there number (omega arith) c.releasing-test.true)
 
@@ -43,9 +43,9 @@ releasing-preserved c =
     let base = c.base-number.ensures.value in
     let low = c.releasing.auto.number in
     let found : item_with early.held number ≡ Some item =
-        sym (item_with-from number number early.held (omega arith))
-        ∙ sym (ap (λ (r : Ring Item). item_with r.held number) kept.rest)
-        ∙ sym c.in-Some.ensures.removed in
+    sym (item_with-from number number early.held (omega arith))
+    ∙ sym (ap (λ (r : Ring Item). item_with r.held number) kept.rest)
+    ∙ sym c.in-Some.ensures.removed in
     record {
       within = let less = c.releasing-test.true in omega arith;
       room = let room = kept.room in let less = c.releasing-test.true in
@@ -75,15 +75,15 @@ returns-clause-rest c =
     let high = c.skip.ensures.high in
     let above = c.requires.above in
     let there : c.releasing.number ≡ c.args.to =
-        let end = c.releasing-test.false in let within = kept.within in omega arith in
+    let end = c.releasing-test.false in let within = kept.within in omega arith in
     let up : c.skip.new.self.base ≡ c.args.to = ⊎_elim
-        (λ (less : c.skip.new.self.base < c.args.to).
-        absurd (not_some (item_with c.skip.new.self.held c.skip.new.self.base)
-        (ap (λ (es : List (ℕ × Item)). item_with es c.skip.new.self.base) held
-        ∙ item_with-before c.releasing.number c.skip.new.self.base early.held (omega arith))
-        (c.skip.ensures.first less)))
-        (λ (more : c.args.to ≤ c.skip.new.self.base). omega arith)
-        (cases_lt c.skip.new.self.base c.args.to) in
+    (λ (less : c.skip.new.self.base < c.args.to).
+    absurd (not_some (item_with c.skip.new.self.held c.skip.new.self.base)
+    (ap (λ (es : List (ℕ × Item)). item_with es c.skip.new.self.base) held
+    ∙ item_with-before c.releasing.number c.skip.new.self.base early.held (omega arith))
+    (c.skip.ensures.first less)))
+    (λ (more : c.args.to ≤ c.skip.new.self.base). omega arith)
+    (cases_lt c.skip.new.self.base c.args.to) in
     state
     ∙ ap (λ (n : ℕ).
     record { base = n; capacity = c.releasing.early.capacity; held = c.releasing.early.held }) up

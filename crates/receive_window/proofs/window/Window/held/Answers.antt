@@ -13,11 +13,11 @@ returns-clause-few c =
     let ring = c.len.ensures.sound in
     let above = above_next early ring c.self.invariant.missing in
     let count = length-between early.held (early.base + 1) (early.base + early.capacity)
-        ring.ascending
-        (λ k d below. (
-          let more = above k d below in omega arith,
-          (ring.within k d below).1,
-        )) in
+    ring.ascending
+    (λ k d below. (
+      let more = above k d below in omega arith,
+      (ring.within k d below).1,
+    )) in
     let has = c.len.ensures.value in
     let room = c.self.invariant.room in
     rw (← c.self.view_is) (omega arith)

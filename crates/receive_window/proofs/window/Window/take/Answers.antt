@@ -23,13 +23,13 @@ returns-then-seq-expected-clause-beyond c =
           let some = sound.narrow in omega arith
       | then-seq-expected-via-else-seq-expected+then-is_some w ↦
           let there = numbers-found (λ k. k < early.base + early.capacity) early.held c.args.seq
-              (λ k d below. (c.base-expected.ensures.sound.within k d below).1)
-              (subst IsSome w.get.ensures
-              (copied-some w.get.result (sym w.is_some.ensures ∙ w.if-is_some.true))) in
+          (λ k d below. (c.base-expected.ensures.sound.within k d below).1)
+          (subst IsSome w.get.ensures
+          (copied-some w.get.result (sym w.is_some.ensures ∙ w.if-is_some.true))) in
           let room = sound.room in omega arith
     ] in
     let below : c.args.seq < c.args.self.now.expected + c.args.self.now.window =
-        subst (λ (v : WindowState). c.args.seq < v.expected + v.window) c.self.view_is near in
+    subst (λ (v : WindowState). c.args.seq < v.expected + v.window) c.self.view_is near in
     ((λ is. absurd (late-not_beyond is)), (λ far. absurd (omega (arith, below, far))))
 
 pub invariant_of-self-then-ahead-gt0 : goal.invariant_of-self-then-ahead-gt0
@@ -41,10 +41,10 @@ invariant_of-self-then-ahead-gt0 c =
     let state = c.set-none.ensures.state in
     let base = ap (λ (r : Ring Item). r.base) state ∙ ap (λ (r : Ring Item). r.base) reserved in
     let held = ap (λ (r : Ring Item). r.held) state
-        ∙ ap (λ (r : Ring Item). with_value r.held c.args.seq c.args.item) reserved in
+    ∙ ap (λ (r : Ring Item). with_value r.held c.args.seq c.args.item) reserved in
     let ahead = c.if-ahead-gt0.true in
     let differ : early.base ≢ c.args.seq = λ same. (let at = c.base-expected.ensures.value in
-        omega arith) in
+    omega arith) in
     record {
       narrow = sound.narrow;
       wide = sound.wide;
@@ -72,7 +72,7 @@ returns-then-ahead-gt0-clause-released c =
     let early = inside.early in
     let reserved = c.in-Ok.ensures.rest in
     let base = ap (λ (r : Ring Item). r.base) c.set-none.ensures.state
-        ∙ ap (λ (r : Ring Item). r.base) reserved in
+    ∙ ap (λ (r : Ring Item). r.base) reserved in
     let above = above_next early c.base-expected.ensures.sound c.self.invariant.missing in
     rw (← c.self.view_is, c.none.ensures, base)
     (Releases-early inside.window early.base c.args.seq c.args.item early.held
@@ -112,15 +112,15 @@ returns-clause-released c =
     let at = c.base-expected.ensures.value in
     let low = c.next_free-next.ensures.low in
     let here : c.args.seq ≡ early.base =
-        let above = c.if-seq-expected.false in let below = c.if-ahead-gt0.false in omega arith in
+    let above = c.if-seq-expected.false in let below = c.if-ahead-gt0.false in omega arith in
     let above = above_next early c.base-expected.ensures.sound c.self.invariant.missing in
     let list : c.release.new.items.items
-        ≡ c.args.item ∷ items_in_order early.held (c.args.seq + 1) next =
-        c.release.ensures.items
-        ∙ ap (λ (l : List Item). l ++ items_in_order early.held (early.base + 1) next)
-        (c.push_reserved.ensures.items
-        ∙ ap (λ (l : List Item). l ++ c.args.item ∷ []) c.in-Ok-with_capacity.ensures.items)
-        ∙ ap (λ (n : ℕ). c.args.item ∷ items_in_order early.held (n + 1) next) (sym here) in
+    ≡ c.args.item ∷ items_in_order early.held (c.args.seq + 1) next =
+    c.release.ensures.items
+    ∙ ap (λ (l : List Item). l ++ items_in_order early.held (early.base + 1) next)
+    (c.push_reserved.ensures.items
+    ∙ ap (λ (l : List Item). l ++ c.args.item ∷ []) c.in-Ok-with_capacity.ensures.items)
+    ∙ ap (λ (n : ℕ). c.args.item ∷ items_in_order early.held (n + 1) next) (sym here) in
     rw (← c.self.view_is, c.new.ensures, c.release.ensures.rest)
     (Releases-next_at inside.window early.base c.args.seq next c.args.item
     c.release.new.items.items early.held (from_number next early.held) here
