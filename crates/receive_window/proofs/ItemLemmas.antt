@@ -1,17 +1,14 @@
--- Items by number.
-use Rattle.std.proofs.Common.{◌≡◌, ◌≢◌, ℕ, ◌+◌, ◌-◌, ◌^◌, ◌<◌, ◌≤◌, zero, suc, true, false, cond, Option, Some, None, Bor, option_copied, is_some, List, [], ◌∷◌, ◌++◌, ⊎_elim, refl, sym, ap, subst, ◌∙◌, arith, length, eqb, leb, ltb}
+-- Items by number: look-ups, runs of numbers that follow one another, and bounds of all numbers.
+use Rattle.std.proofs.Common.{◌≡◌, ◌≢◌, ℕ, ◌+◌, ◌-◌, ◌^◌, ◌<◌, ◌≤◌, zero, suc, true, false, cond, Option, Some, None, Bor, option_copied, is_some, List, [], ◌∷◌, ◌++◌, ⊎_elim, refl, sym, ap, subst, ◌∙◌, arith, length, eqb, leb}
 use Rattle.std.specs.Option.{IsSome}
-use Rattle.std.specs.Bool.{IsTrue}
 use Rattle.std.specs.List.{filter_map, cons_option, range_with_len, All, AllPairs}
-use Rattle.std.proofs.lemmas.Bool.{both_ways, cases_eq, cases_lt, eq-eqb, eqb-true, le-leb, le-ltb, lt-leb, lt-ltb, ne_eqb, or_from}
+use Rattle.std.proofs.lemmas.Bool.{both_ways, cases_eq, cases_lt, eq-eqb, eqb-true, le-leb, lt-leb, ne_eqb}
 use Rattle.std.proofs.lemmas.List.Elements.{All-cons, All-head, All-nil, All-tail, filter_map-append}
 use Rattle.std.proofs.lemmas.Map.Entries.{lookup-filter-keys}
 use Rattle.slot_ring.specs.Ring.{IsRing, Ring, without}
 use Rattle.chan_values.specs.declared.item.Item.{Item}
-use Rattle.receive_window.specs.declared.take.Take.{Take}
-use Rattle.receive_window.specs.declared.take.Take.TheVariants as takes
 use Rattle.receive_window.specs.Inside.{from_number}
-use Rattle.receive_window.specs.Window.{AreDifferent, WindowState, Releases, item_with, items_in_order, is_taken}
+use Rattle.receive_window.specs.Window.{AreDifferent, item_with, items_in_order}
 
 -- one item more, at the front
 pub item_with-cons : (es : List (ℕ × Item)) (n k : ℕ) (item : Item)
@@ -60,7 +57,7 @@ items_in_order-more es a b item below is =
     ∙ ap (λ (o : Option Item). items_in_order es a b ++ cons_option o []) is
 
 -- two functions that agree in a range give the same list over it
-filter_map-agree : (f g : ℕ → Option Item) (a n : ℕ)
+pub filter_map-agree : (f g : ℕ → Option Item) (a n : ℕ)
     → ((k : ℕ) → a ≤ k → k < a + n → f k ≡ g k)
     → filter_map f (range_with_len a n) ≡ filter_map g (range_with_len a n)
 filter_map-agree f g a zero same = refl
@@ -70,98 +67,6 @@ filter_map-agree f g a (suc n) same =
       filter_map-agree f g (a + 1) n
           (λ k low high. same k (omega arith) (omega arith)),
     ) refl
-
--- an early item releases nothing
-pub Releases-early : (w e n : ℕ) (item : Item) (early new : List (ℕ × Item))
-    → e < n
-    → ((k : ℕ) → IsSome (item_with early k) → e < k)
-    → ((k : ℕ) → item_with new k ≡ cond (eqb n k) (Some item) (item_with early k))
-    → AreDifferent new
-    → Releases (record { window = w; expected = e; early = early }) ((n, item) ∷ early) []
-    (record { window = w; expected = e; early = new })
-Releases-early w e n item early new ahead above updated different =
-    record {
-      window = refl;
-      grows = omega arith;
-      there = λ k low high. absurd (omega arith);
-      missing = item_with-cons early n e item
-          ∙ rw (ne_eqb n e (λ q. omega arith)) (gap e (omega arith));
-      released = sym (items_in_order-none ((n, item) ∷ early) e);
-      early = λ k. updated k ∙ ⊎_elim
-          (λ (low : k < e). rw (ne_eqb n k (λ q. omega arith), lt-ltb k e low)
-          (gap k (omega arith)))
-          (λ (high : e ≤ k). rw (le-ltb k e high) (sym (item_with-cons early n k item)))
-          (cases_lt k e);
-      different = different;
-    }
-  where
-    gap : (k : ℕ) → k ≤ e → item_with early k ≡ None
-    gap k low = absent (item_with early k) (λ some. let more = above k some in omega arith)
-
--- the next number releases its item and those that follow it
-pub Releases-next : (w e to : ℕ) (item : Item) (items : List Item) (early new : List (ℕ × Item))
-    → ((k : ℕ) → IsSome (item_with early k) → e < k)
-    → e + 1 ≤ to → items ≡ item ∷ items_in_order early (e + 1) to
-    → ((k : ℕ) → e + 1 ≤ k → k < to → IsSome (item_with early k)) → item_with early to ≡ None
-    → ((k : ℕ) → (e + 1 ≤ k → to ≤ k) → item_with new k ≡ item_with early k)
-    → ((k : ℕ) → e + 1 ≤ k → k < to → item_with new k ≡ None)
-    → AreDifferent new
-    → Releases (record { window = w; expected = e; early = early }) ((e, item) ∷ early) items
-    (record { window = w; expected = to; early = new })
-Releases-next w e to item items early new above grows list there missing rest gone different =
-    record {
-      window = refl;
-      grows = omega arith;
-      there = λ k low high. ⊎_elim
-          (λ (same : e ≡ k). present (item_with ((e, item) ∷ early) k) item
-          (item_with-cons early e k item ∙ rw (eq-eqb e k same) refl))
-          (λ (differ : e ≡ k → ⊥). subst IsSome (sym (other k differ)) (there k (omega arith) high))
-          (cases_eq e k);
-      missing = other to (λ q. omega arith) ∙ missing;
-      released = list ∙ sym first;
-      early = λ k. ⊎_elim
-          (λ (low : k < to). rw (lt-ltb k to low) (below k low))
-          (λ (high : to ≤ k). rw (le-ltb k to high)
-          (rest k (λ _. high) ∙ sym (other k (λ q. omega arith))))
-          (cases_lt k to);
-      different = different;
-    }
-  where
-    other : (k : ℕ) → (e ≡ k → ⊥) → item_with ((e, item) ∷ early) k ≡ item_with early k
-    other k differ = item_with-cons early e k item ∙ rw (ne_eqb e k differ) refl
-
-    below : (k : ℕ) → k < to → item_with new k ≡ None
-    below k low = ⊎_elim
-        (λ (old : k < e + 1). rest k (λ q. absurd (omega arith))
-        ∙ absent (item_with early k) (λ some. let more = above k some in omega arith))
-        (λ (more : e + 1 ≤ k). gone k more low)
-        (cases_lt k (e + 1))
-
-    first : items_in_order ((e, item) ∷ early) e to ≡ item ∷ items_in_order early (e + 1) to
-    first =
-        let count : to - e ≡ suc (to - (e + 1)) = omega arith in
-        ap (λ (n : ℕ). filter_map (item_with ((e, item) ∷ early)) (range_with_len e n)) count
-        ∙ rw (eq-eqb e e refl)
-        (ap (λ (l : List Item). item ∷ l)
-        (filter_map-agree (item_with ((e, item) ∷ early)) (item_with early) (e + 1)
-        (to - (e + 1)) (λ k low high. other k (λ q. omega arith))))
-
--- the same, of a number that is the next one
-pub Releases-next_at : (w e n to : ℕ) (item : Item) (items : List Item)
-    (early new : List (ℕ × Item))
-    → n ≡ e
-    → ((k : ℕ) → IsSome (item_with early k) → e < k)
-    → n + 1 ≤ to → items ≡ item ∷ items_in_order early (n + 1) to
-    → ((k : ℕ) → n + 1 ≤ k → k < to → IsSome (item_with early k)) → item_with early to ≡ None
-    → ((k : ℕ) → (n + 1 ≤ k → to ≤ k) → item_with new k ≡ item_with early k)
-    → ((k : ℕ) → n + 1 ≤ k → k < to → item_with new k ≡ None)
-    → AreDifferent new
-    → Releases (record { window = w; expected = e; early = early }) ((n, item) ∷ early) items
-    (record { window = w; expected = to; early = new })
-Releases-next_at w e n to item items early new here above grows list there missing rest gone different =
-    rw here (Releases-next w e to item items early new above (omega arith) (rw (← here) list)
-    (λ k low. there k (omega arith)) missing (λ k beyond. rest k (λ low. beyond (omega arith)))
-    (λ k low. gone k (omega arith)) different)
 
 -- numbers in order between two bounds are at most as many as those between
 pub length-between : (es : List (ℕ × Item)) (low high : ℕ)
@@ -263,43 +168,10 @@ from_number-all n (e ∷ es) all =
     (ap (λ (fs : List (ℕ × Item)). e ∷ fs)
     (from_number-all n es (All-tail (λ (f : ℕ × Item). n ≤ f.0) e es all)))
 
--- a number that is neither below the next one nor early
-pub fresh : (w e n : ℕ) (es : List (ℕ × Item))
-    → e ≤ n
-    → item_with es n ≡ None
-    → is_taken (record { window = w; expected = e; early = es }) n ≡ false
-fresh w e n es above none =
-    or_from (ltb n e) (is_some (item_with es n)) (le-ltb n e above) (ap is_some none)
-
--- an answer that isn't Late is given for a number that wasn't taken
-pub not_late : (state : WindowState) (n : ℕ) (answer : Take)
-    → is_taken state n ≡ false
-    → (answer ≡ takes.Late → ⊥)
-    → (answer ≡ takes.Late → IsTrue (is_taken state n)) ×
-    (IsTrue (is_taken state n) → answer ≡ takes.Late)
-not_late state n answer new other =
-    ((λ is. absurd (other is)), (λ taken. absurd (both_ways (is_taken state n) new taken)))
-
--- a released message isn't late
-pub released-not_late : (items : List Item) → takes.Released items ≡ takes.Late → ⊥
-released-not_late items is = cc
-
--- nor is one that found no memory
-pub no_memory-not_late : (item : Item) → takes.NoMemory item ≡ takes.Late → ⊥
-no_memory-not_late item is = cc
-
--- a late message isn't beyond
-pub late-not_beyond : takes.Late ≡ takes.Beyond → ⊥
-late-not_beyond is = cc
-
 -- what a reference finds, where it finds something, and where it doesn't
 pub copied-some : (o : Option (Bor Item)) → is_some o ≡ true → IsSome (option_copied o)
 copied-some None some = absurd (both_ways false refl some)
 copied-some (Some item) some = refl
-
-pub copied-none : (o : Option (Bor Item)) → is_some o ≡ false → option_copied o ≡ None
-copied-none None none = refl
-copied-none (Some item) none = absurd (both_ways true none refl)
 
 -- where the next number has no item the numbers of the items are above it
 pub above_next : (early : Ring Item)

@@ -7,7 +7,8 @@ use Rattle.chan_values.specs.declared.item.Item.{Item}
 use Rattle.slot_ring.specs.Ring.{Ring, with_value}
 use Rattle.receive_window.specs.Inside.{from_number}
 use Rattle.receive_window.specs.Window.{WindowState, item_with, items_in_order}
-use Rattle.receive_window.proofs.ItemLemmas.{Releases-early, Releases-next_at, above_next, absent, copied-some, eqb-turned, item_with-before, item_with-from, late-not_beyond, next_small, numbers-found, numbers_differ}
+use Rattle.receive_window.proofs.ItemLemmas.{above_next, absent, copied-some, eqb-turned, item_with-before, item_with-from, next_small, numbers-found, numbers_differ}
+use Rattle.receive_window.proofs.ReleaseLemmas.{Releases-early, Releases-next_at, late-not_beyond}
 use Rattle.receive_window.proofs.window.Window.take.Goals as goal
 use Rattle.receive_window.proofs.window.Window.take.Goals.{then-seq-expected-via-then-seq-expected, then-seq-expected-via-else-seq-expected+then-is_some}
 
