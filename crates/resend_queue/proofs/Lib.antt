@@ -1,2 +1,4 @@
 pub mod HeldLemmas
+pub mod MessageLemmas
 pub mod QueueLemmas
+pub mod SoundLemmas

@@ -2,7 +2,9 @@ use Rattle.std.proofs.Common.{List, ap, sym, ◌∙◌, arith, refl}
 use Rattle.std.proofs.lemmas.Bool.{eq-eqb, ne_eqb}
 use Rattle.slot_ring.specs.Ring.{without}
 use Rattle.resend_queue.specs.Queue.{Pending}
-use Rattle.resend_queue.proofs.QueueLemmas.{base-lowest, messages-risen, messages-without, sound-risen, sound-without}
+use Rattle.resend_queue.proofs.MessageLemmas.{messages-risen, messages-without}
+use Rattle.resend_queue.proofs.QueueLemmas.{base-lowest}
+use Rattle.resend_queue.proofs.SoundLemmas.{sound-risen, sound-without}
 use Rattle.resend_queue.proofs.queue.Queue.acked.Goals as goal
 
 pub invariant_of-self : goal.invariant_of-self

@@ -1,7 +1,8 @@
 use Rattle.std.proofs.Common.{List, ap, sym, ◌+◌}
 use Rattle.resend_queue.specs.Queue.{Pending}
 use Rattle.resend_queue.proofs.HeldLemmas.{first_of}
-use Rattle.resend_queue.proofs.QueueLemmas.{from_base, mark_answer-due, mark_answer-gave_up, mark_answer-none, mark_answer-waits, messages-marked, none_held}
+use Rattle.resend_queue.proofs.MessageLemmas.{messages-marked}
+use Rattle.resend_queue.proofs.QueueLemmas.{from_base, mark_answer-due, mark_answer-gave_up, mark_answer-none, mark_answer-waits, none_held}
 use Rattle.resend_queue.proofs.queue.Queue.mark_due.Goals as goal
 
 pub returns-in_default-clause-answer : goal.returns-in_default-clause-answer

@@ -2,7 +2,9 @@ use Rattle.std.proofs.Common.{List, Some, ap, sym, ◌∙◌, ◌+◌, ◌<◌, 
 use Rattle.resend_queue.specs.Inside.{IsKept}
 use Rattle.resend_queue.specs.Queue.{Pending, QueueState, changed_at, first_ready, out_of, transmitted}
 use Rattle.resend_queue.proofs.HeldLemmas.{All-found}
-use Rattle.resend_queue.proofs.QueueLemmas.{IsFirst, first_ready-none, first_ready-slot, messages-transmitted, sound-passed, sound-transmitted, state-passed}
+use Rattle.resend_queue.proofs.MessageLemmas.{messages-transmitted, state-passed}
+use Rattle.resend_queue.proofs.QueueLemmas.{IsFirst, first_ready-none, first_ready-slot}
+use Rattle.resend_queue.proofs.SoundLemmas.{sound-passed, sound-transmitted}
 use Rattle.resend_queue.proofs.queue.Queue.next_out.Goals as goal
 
 pub returns-in_default-clause-answer : goal.returns-in_default-clause-answer

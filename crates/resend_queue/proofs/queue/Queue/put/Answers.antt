@@ -3,7 +3,9 @@ use Rattle.std.proofs.lemmas.Bool.{eq-eqb, ne_eqb}
 use Rattle.slot_ring.specs.Ring.{Ring, with_value}
 use Rattle.resend_queue.specs.declared.slot.Slot.{Slot}
 use Rattle.resend_queue.specs.Queue.{Pending}
-use Rattle.resend_queue.proofs.QueueLemmas.{base-lowest, messages-put, sound-put}
+use Rattle.resend_queue.proofs.MessageLemmas.{messages-put}
+use Rattle.resend_queue.proofs.QueueLemmas.{base-lowest}
+use Rattle.resend_queue.proofs.SoundLemmas.{sound-put}
 use Rattle.resend_queue.proofs.queue.Queue.put.Goals as goal
 
 pub returns-then-span-self-clause-answer : goal.returns-then-span-self-clause-answer

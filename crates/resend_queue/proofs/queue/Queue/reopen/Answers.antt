@@ -1,6 +1,6 @@
 use Rattle.std.proofs.Common.{List, ap}
 use Rattle.resend_queue.specs.Queue.{Pending}
-use Rattle.resend_queue.proofs.QueueLemmas.{messages-reopened}
+use Rattle.resend_queue.proofs.MessageLemmas.{messages-reopened}
 use Rattle.resend_queue.proofs.queue.Queue.reopen.Goals as goal
 
 pub returns : goal.returns
