@@ -10,7 +10,7 @@ use Rattle.json_bodies.specs.Ack.{IsAckBody, ack_faults}
 use Rattle.json_bodies.specs.ChannelClosed.{IsClosedBody, closed_faults}
 use Rattle.json_bodies.specs.Reading.{Shows}
 use Rattle.json_bodies.specs.declared.ack.Ack.{Ack}
-use Rattle.json_bodies.specs.declared.body_fault.BodyFault.{BodyFault}
+use Rattle.json_members.specs.declared.body_fault.BodyFault.{BodyFault}
 use Rattle.json_bodies.specs.declared.channel_closed.ChannelClosed.{ChannelClosed}
 use Rattle.channel_core.specs.Wire.{data_name}
 use Rattle.channel_core.specs.declared.message.Incoming.{Incoming}

@@ -8,10 +8,10 @@ use Rattle.serde_json.specs.Data.{Data, null, boolean, number, string, array, ob
 use Rattle.serde_json.specs.Find.{is_float, as_object}
 use Rattle.serde_json.specs.View.{items_of}
 use Rattle.serde_json.specs.Written.{has_float, items_have_float, members_have_float, compact_text}
-use Rattle.json_bodies.specs.Member.{name_of}
-use Rattle.json_bodies.specs.Object.{Field, member_if, present, object_with}
-use Rattle.json_bodies.specs.Reading.{object_of}
-use Rattle.json_bodies.specs.declared.member.Member.{Member}
+use Rattle.json_members.specs.Member.{name_of}
+use Rattle.json_members.specs.Object.{Field, member_if, present, object_with}
+use Rattle.json_members.specs.Members.{object_of}
+use Rattle.json_members.specs.declared.member.Member.{Member}
 use Rattle.json_bodies.proofs.ObjectLemmas.{both, is_behind, are_in_order, put-present, present-absent}
 use Rattle.json_bodies.proofs.WrittenLemmas.{IsInteger, IsPlain, ArePlainItems, ArePlain, Follows, joined, object_of-compact_text}
 

@@ -5,11 +5,11 @@ use Rattle.std.specs.Ordering.{is_gt, nat_cmp, match_ordering}
 use Rattle.std.specs.Option.{option_or}
 use Rattle.std.specs.Cmp.Lexicographic.{slice_cmp}
 use Rattle.json.proofs.Printed.Utf8.{are_ascii}
-use Rattle.serde_json.specs.Data.{Data, Members, no_members, member, put}
+use Rattle.serde_json.specs.Data.{Data, object, Members, no_members, member, put}
 use Rattle.serde_json.specs.Find.{get, get_member}
-use Rattle.json_bodies.specs.Member.{name_of}
-use Rattle.json_bodies.specs.Object.{Field, member_if, present, object_with, put_if}
-use Rattle.json_bodies.specs.declared.member.Member.{Member}
+use Rattle.json_members.specs.Member.{name_of}
+use Rattle.json_members.specs.Object.{Field, member_if, present, object_with, put_if}
+use Rattle.json_members.specs.declared.member.Member.{Member}
 
 pub both : (a b : Bool) → a && b ≡ true → (a ≡ true) × (b ≡ true)
 both true b h = (refl, h)
@@ -75,6 +75,11 @@ put_all-present done (field ∷ fields) h =
 pub put_all-in_order : (fields : List Field) → are_in_order [] fields ≡ true
     → put_all fields no_members ≡ present fields
 put_all-in_order fields h = put_all-present [] fields h
+
+-- so an object of them is the one with these fields
+pub object-put_all : (fields : List Field) (put : Members) → are_in_order [] fields ≡ true
+    → put ≡ put_all fields no_members → object put ≡ object_with fields
+object-put_all fields put order is = ap object (is ∙ put_all-in_order fields order)
 
 -- the value under a name
 abbrev pub found_at : List ℕ → List Field → Option Data

@@ -1,12 +1,13 @@
 -- A reply to an opening: no object gives two, and what is written gives it back.
 use Rattle.std.proofs.Common.{◌≡◌, Bool, Err, Ok, IsUtf8, inl, inr, refl, sym, ap}
 use Rattle.serde_json.specs.Data.{Data}
-use Rattle.json_bodies.specs.declared.body_fault.BodyFault.{BodyFault}
-use Rattle.json_bodies.specs.declared.member.Member.TheVariants.{Accepted, Ended}
+use Rattle.json_members.specs.declared.body_fault.BodyFault.{BodyFault}
+use Rattle.json_members.specs.declared.member.Member.TheVariants.{Accepted, Ended}
 use Rattle.json_bodies.specs.declared.opened.Opened.{Opened}
-use Rattle.json_bodies.specs.Object.{object_with}
+use Rattle.json_members.specs.Object.{object_with}
 use Rattle.json_bodies.specs.Opened.{GivesOpened, opened_faults, opened_fields, IsInRangeOpened}
-use Rattle.json_bodies.specs.Reading.{truth_at, IsFirst, UnlessNoMemory}
+use Rattle.json_members.specs.Members.{truth_at, UnlessNoMemory}
+use Rattle.json_bodies.specs.Reading.{IsFirst}
 use Rattle.json_bodies.specs.Token.{resume_at}
 use Rattle.json_bodies.proofs.KeptLemmas.{AreKept, IsKept-boolean, IsKept-string}
 use Rattle.json_bodies.proofs.ReadingLemmas.{IsTable, IsForm}

@@ -4,8 +4,8 @@ use Rattle.std.proofs.Common.{◌≡◌, refl}
 use Rattle.serde_json.specs.Data.{Data}
 use Rattle.json.proofs.Printed.Utf8.{IsUtf8-are_ascii}
 use Rattle.json_bodies.specs.declared.opening.Opening.{Opening}
-use Rattle.json_bodies.specs.declared.member.Member.TheVariants.{ClientId, ClientVersion, MessageSchemaVersion, RequestId, TokenValue}
-use Rattle.json_bodies.specs.Object.{object_with}
+use Rattle.json_members.specs.declared.member.Member.TheVariants.{ClientId, ClientVersion, MessageSchemaVersion, RequestId, TokenValue}
+use Rattle.json_members.specs.Object.{object_with}
 use Rattle.json_bodies.specs.Opening.{GivesOpening, opening_faults, opening_fields, IsWritableOpening, schema_version}
 use Rattle.json_bodies.proofs.KeptLemmas.{AreKept, IsKept-string, kept_string_if}
 use Rattle.json_bodies.proofs.MemberLemmas.{text_at-found, optional_text_at-found, fixed_text_at-found}

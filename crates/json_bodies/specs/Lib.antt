@@ -1,9 +1,13 @@
 pub mod Ack
+pub mod Action
 pub mod ChannelClosed
-pub mod Member
-pub mod Object
+pub mod HandshakeComplete
+pub mod HandshakeRequest
+pub mod HandshakeResponse
 pub mod Opened
 pub mod Opening
+pub mod Processed
+pub mod Properties
 pub mod Reading
 pub mod Size
 pub mod Token

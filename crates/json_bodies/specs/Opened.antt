@@ -3,11 +3,12 @@ use Rattle.std.specs.Prelude.{◌≡◌, ℕ, false, List, [], ◌∷◌, ◌++�
 use Rattle.std.specs.Result.{result_unwrap_or}
 use Rattle.serde_json.specs.Data.{Data, boolean, string}
 use Rattle.serde_json.specs.Written.{compact_text}
-use Rattle.json_bodies.specs.Object.{Field, object_with}
-use Rattle.json_bodies.specs.Reading.{object_of, truth_at, fault_in}
+use Rattle.json_members.specs.Object.{Field, object_with}
+use Rattle.json_members.specs.Members.{object_of, truth_at}
+use Rattle.json_bodies.specs.Reading.{fault_in}
 use Rattle.json_bodies.specs.Token.{is_resume, resume_at}
-use Rattle.json_bodies.specs.declared.member.Member.TheVariants.{Accepted, Ended, ResumeToken}
-use Rattle.json_bodies.specs.declared.body_fault.BodyFault.{BodyFault}
+use Rattle.json_members.specs.declared.member.Member.TheVariants.{Accepted, Ended, ResumeToken}
+use Rattle.json_members.specs.declared.body_fault.BodyFault.{BodyFault}
 use Rattle.json_bodies.specs.declared.opened.Opened.{Opened}
 
 -- the object's members give the reply

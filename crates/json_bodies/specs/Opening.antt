@@ -2,10 +2,11 @@
 use Rattle.std.specs.Prelude.{◌≡◌, ℕ, List, [], ◌∷◌, ◌++◌, codes, IsUtf8, option_map, IfSome, Some, Ok}
 use Rattle.serde_json.specs.Data.{Data, string}
 use Rattle.serde_json.specs.Written.{compact_text}
-use Rattle.json_bodies.specs.Object.{Field, object_with}
-use Rattle.json_bodies.specs.Reading.{object_of, text_at, optional_text_at, fixed_text_at, fault_in}
-use Rattle.json_bodies.specs.declared.member.Member.TheVariants.{ClientId, ClientVersion, MessageSchemaVersion, RequestId, TokenValue}
-use Rattle.json_bodies.specs.declared.body_fault.BodyFault.{BodyFault}
+use Rattle.json_members.specs.Object.{Field, object_with}
+use Rattle.json_members.specs.Members.{object_of, text_at, optional_text_at, fixed_text_at}
+use Rattle.json_bodies.specs.Reading.{fault_in}
+use Rattle.json_members.specs.declared.member.Member.TheVariants.{ClientId, ClientVersion, MessageSchemaVersion, RequestId, TokenValue}
+use Rattle.json_members.specs.declared.body_fault.BodyFault.{BodyFault}
 use Rattle.json_bodies.specs.declared.opening.Opening.{Opening}
 
 -- the version of these bodies

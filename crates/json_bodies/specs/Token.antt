@@ -2,9 +2,9 @@
 use Rattle.std.specs.Prelude.{ℕ, Bool, not, ◌&&◌, ◌||◌, ◌==◌, List, length, Some, None, Result, nat_le, if◌then◌else◌}
 use Rattle.std.specs.List.{list_all}
 use Rattle.serde_json.specs.Data.{Data}
-use Rattle.json_bodies.specs.Reading.{text_at, in_range}
-use Rattle.json_bodies.specs.declared.member.Member.TheVariants.{ResumeToken}
-use Rattle.json_bodies.specs.declared.body_fault.BodyFault.{BodyFault}
+use Rattle.json_members.specs.Members.{text_at, in_range}
+use Rattle.json_members.specs.declared.member.Member.TheVariants.{ResumeToken}
+use Rattle.json_members.specs.declared.body_fault.BodyFault.{BodyFault}
 
 -- a lower-case hexadecimal digit
 abbrev pub is_digit : ℕ → Bool

@@ -6,22 +6,29 @@
 #![tactic(auto)]
 
 mod ack;
-mod body_fault;
+mod action;
 mod channel_closed;
+mod handshake_complete;
+mod handshake_request;
+mod handshake_response;
 pub mod laws;
-mod member;
 mod opened;
 mod opening;
-mod reading;
+mod processed;
+mod properties;
 mod size;
 #[cfg(test)]
 mod tests;
-mod writing;
 
 pub use ack::Ack;
-pub use body_fault::BodyFault;
+pub use action::{Action, Actions};
 pub use channel_closed::ChannelClosed;
-pub use member::Member;
+pub use handshake_complete::HandshakeComplete;
+pub use handshake_request::HandshakeRequest;
+pub use handshake_response::HandshakeResponse;
+pub use json_members::{BodyFault, Member, Sequence, Texts};
 pub use opened::Opened;
 pub use opening::Opening;
+pub use processed::{Processed, ProcessedActions};
+pub use properties::Properties;
 pub use size::Size;

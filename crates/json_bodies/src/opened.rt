@@ -3,15 +3,15 @@
 ghost use Rattle.std.specs.Prelude.{◌≡◌, Ok, IfOk, IfErr, IsUtf8};
 ghost use Rattle.std.specs.List.{list_all};
 ghost use Rattle.serde_json.specs.View.{view};
-ghost use Rattle.json_bodies.specs.Object.{object_with};
-ghost use Rattle.json_bodies.specs.Reading.{IsFirst, Shows, IsReading, UnlessNoMemory};
+ghost use Rattle.json_members.specs.Object.{object_with};
+ghost use Rattle.json_members.specs.Members.{UnlessNoMemory};
+ghost use Rattle.json_bodies.specs.Reading.{IsFirst, Shows, IsReading};
 ghost use Rattle.json_bodies.specs.Token.{is_digit, is_resume, is_token, resume_at};
 
-use crate::body_fault::BodyFault;
-use crate::member::Member;
-use crate::reading::{object, str_of, truth};
-use crate::writing::{put_text, put_truth};
 use chan_values::{NoMemory, Text};
+use json_members::reading::{object, text_in, truth};
+use json_members::writing::{put_text, put_truth};
+use json_members::{BodyFault, Member};
 use serde_json::{Map, Value};
 use std::alloc::Global;
 
@@ -81,7 +81,7 @@ impl Opened {
 fn resume(alloc: Global, body: &Value, accepted: bool) -> Result<Text, BodyFault>
     ensures { UnlessNoMemory result (resume_at accepted (view body.now)) }
 {
-    let text = str_of(body, Member::ResumeToken)?;
+    let text = text_in(body, Member::ResumeToken)?;
     if !is_resume(accepted, text) {
         return Err(BodyFault::Range(Member::ResumeToken));
     }

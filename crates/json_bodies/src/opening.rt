@@ -2,14 +2,14 @@
 
 ghost use Rattle.std.specs.Prelude.{◌≡◌, Ok, IfOk, IfErr};
 ghost use Rattle.serde_json.specs.View.{view};
-ghost use Rattle.json_bodies.specs.Object.{object_with};
-ghost use Rattle.json_bodies.specs.Reading.{IsFirst, Shows, IsReading, UnlessNoMemory};
+ghost use Rattle.json_members.specs.Object.{object_with};
+ghost use Rattle.json_members.specs.Members.{UnlessNoMemory};
+ghost use Rattle.json_bodies.specs.Reading.{IsFirst, Shows, IsReading};
 
-use crate::body_fault::BodyFault;
-use crate::member::Member;
-use crate::reading::{fixed_text, object, optional_text, text};
-use crate::writing::{put_optional_text, put_str, put_text};
 use chan_values::{NoMemory, Text};
+use json_members::reading::{fixed_text, object, optional_text, text};
+use json_members::writing::{put_optional_text, put_str, put_text};
+use json_members::{BodyFault, Member};
 use serde_json::{Map, Value};
 use std::alloc::Global;
 

@@ -2,6 +2,7 @@
 
 mod examples;
 mod faults;
+mod handshakes;
 mod readings;
 
 use chan_values::Text;

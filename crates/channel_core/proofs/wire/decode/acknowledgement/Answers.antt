@@ -1,6 +1,6 @@
 use Rattle.std.proofs.Common.{◌≡◌, ◌∙◌, inl, inr, ap, Err}
 use Rattle.std.proofs.lemmas.Result.{err_from_is_err_and}
-use Rattle.json_bodies.specs.declared.body_fault.BodyFault.TheVariants as BodyFault
+use Rattle.json_members.specs.declared.body_fault.BodyFault.TheVariants as BodyFault
 use Rattle.channel_core.specs.Arrival.{refusal_of_body}
 use Rattle.channel_core.specs.Wire.{ack_body}
 use Rattle.channel_core.proofs.ArrivalLemmas.{IsWritableAck-ack_body, never_negative, magnitude}
