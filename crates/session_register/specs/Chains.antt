@@ -14,12 +14,14 @@ use Rattle.session_register.specs.declared.answer.Closing.{Closing}
 use Rattle.session_register.specs.Names.{same_name}
 use Rattle.session_register.specs.Rows.{Entry, Creates, Opens, Ends, IsAnswered, Meets, greatest, old_row_of, row_of, session_of, uncounted, upgraded}
 
+-- whether two ends are one
 abbrev pub same_side : Side → Side → Bool
 same_side Plugin Plugin = true
 same_side Agent Agent = true
 same_side Plugin Agent = false
 same_side Agent Plugin = false
 
+-- of two tokens, that of an end
 abbrev pub token_for : Side → Token → Token → Token
 token_for Plugin plugin agent = plugin
 token_for Agent plugin agent = agent
@@ -41,15 +43,17 @@ abbrev pub ends : List ℕ → Entry → Bool
 ends session (Ends s Closing.Done) = same_name s session
 ends session entry = false
 
+-- whether an entry ended the session
 unfoldable pub is_ended : List Entry → List ℕ → Bool
 is_ended cs session = list_any (ends session) cs
 
--- whether this entry is an opening with a new token, or with the last one again
+-- whether this entry is an opening with a new token
 abbrev pub gives_new : List ℕ → Side → Entry → Bool
 gives_new session role (Opens s r t fresh (Open.Successor token)) =
     same_name s session && same_side r role
 gives_new session role entry = false
 
+-- or with the last one again
 abbrev pub gives_again : List ℕ → Side → Entry → Bool
 gives_again session role (Opens s r t fresh (Open.Same token)) =
     same_name s session && same_side r role
@@ -63,12 +67,14 @@ opening_count from cs session role =
     (count_by (gives_new session role) cs + count_by (gives_again session role) (drop from cs))
     greatest
 
+-- the chain of these tokens
 abbrev pub chain_told : List Token → ℕ → Option Chain
 chain_told [] opened = None
 chain_told (last ∷ []) opened = Some (record { last = last; prev = None; opened = opened })
 chain_told (last ∷ prev ∷ tokens) opened =
     Some (record { last = last; prev = Some prev; opened = opened })
 
+-- a session has a row where both its chains have a token
 abbrev pub row_with : List ℕ → Bool → Option Chain → Option Chain → Option Row
 row_with session ended (Some plugin) (Some agent) =
     Some (record { session = session; ended = ended; plugin = plugin; agent = agent })

@@ -17,6 +17,7 @@ use Rattle.session_register.specs.Names.{same_name}
 abbrev pub greatest : ℕ
 greatest = 2 ^ 63 - 1
 
+-- a token that a chain may have
 abbrev pub IsToken : Token → Type 0
 IsToken token = (1 ≤ token.count) × (token.count ≤ greatest)
 
@@ -31,14 +32,16 @@ pub record IsOldKept (chain : OldChain) : Type 0 where
   pub last : IsToken chain.last
   pub prev : IfSome chain.prev IsToken
 
+-- a row that may be kept
 abbrev pub IsRow : Row → Type 0
 IsRow row = IsKept row.plugin × IsKept row.agent
 
--- a row of a store that counts no openings, with one for each token but the first
+-- a chain of a store that counts no openings, with one for each token but the first
 abbrev pub upgraded_chain : OldChain → Chain
 upgraded_chain chain =
     record { last = chain.last; prev = chain.prev; opened = chain.last.count - 1 }
 
+-- a row of such a store, with both chains counted
 abbrev pub upgraded : OldRow → Row
 upgraded row =
     record {
@@ -64,20 +67,24 @@ uncounted row =
 
 -- ---- the row of a session
 
+-- the row of a session among rows without counts
 abbrev pub old_row_of : List OldRow → List ℕ → Option OldRow
 old_row_of [] session = None
 old_row_of (row ∷ rows) session =
     if same_name session row.session then Some row else old_row_of rows session
 
+-- the row of a session among rows
 abbrev pub row_of : List Row → List ℕ → Option Row
 row_of [] session = None
 row_of (row ∷ rows) session =
     if same_name session row.session then Some row else row_of rows session
 
+-- the chain of an end
 abbrev pub chain_of : Side → Row → Chain
 chain_of Plugin row = row.plugin
 chain_of Agent row = row.agent
 
+-- the row with this chain for an end
 abbrev pub with_chain : Side → Chain → Row → Row
 with_chain Plugin chain row = record row { plugin = chain }
 with_chain Agent chain row = record row { agent = chain }
@@ -92,6 +99,7 @@ pub data Entry : Type 0 where
   AsksEnded : (session : List ℕ) (answer : Option Bool) → Entry
   Counts : (session : List ℕ) (answer : Option (ℕ × ℕ)) → Entry
 
+-- the session of an entry
 abbrev pub session_of : Entry → List ℕ
 session_of (Creates session plugin agent answer) = session
 session_of (Opens session role token fresh answer) = session
@@ -99,6 +107,7 @@ session_of (Ends session answer) = session
 session_of (AsksEnded session answer) = session
 session_of (Counts session answer) = session
 
+-- whether two tokens are one
 abbrev pub same_token : Token → Token → Bool
 same_token a b = nat_eq a.count b.count && nat_eq a.random b.random
 
@@ -107,17 +116,20 @@ abbrev pub is_prev : Token → Option Token → Bool
 is_prev token None = false
 is_prev token (Some prev) = same_token token prev
 
+-- the first token of a chain
 abbrev pub first_token : ℕ → Token
 first_token random = record { count = 1; random = random }
 
+-- the token after another
 abbrev pub successor : Token → ℕ → Token
 successor token fresh = record { count = token.count + 1; random = fresh }
 
+-- what a creation answers over the row of its session
 abbrev pub answer_to_create : Option Row → ℕ → ℕ → Created
 answer_to_create None plugin agent = Created.New (first_token plugin) (first_token agent)
 answer_to_create (Some row) plugin agent = Created.Exists
 
--- with the last token its successor; with the one before the last that was given already
+-- what a token is answered that is shown to a chain, by the first of these that applies
 abbrev pub answer_by_chain : Chain → Bool → Token → ℕ → Open
 answer_by_chain chain ended token fresh =
     if not (same_token token chain.last || is_prev token chain.prev) then Open.BadToken
@@ -126,11 +138,13 @@ answer_by_chain chain ended token fresh =
     else if nat_eq chain.last.count greatest then Open.Spent
     else Open.Successor (successor chain.last fresh)
 
+-- what an opening answers
 abbrev pub answer_to_open : Option Row → Side → Token → ℕ → Open
 answer_to_open None role token fresh = Open.NoSession
 answer_to_open (Some row) role token fresh =
     answer_by_chain (chain_of role row) row.ended token fresh
 
+-- what an end answers
 abbrev pub answer_to_end : Option Row → Closing
 answer_to_end None = Closing.NoSession
 answer_to_end (Some row) = Closing.Done
@@ -147,6 +161,7 @@ IsAnswered row (Counts session answer) =
 
 -- ---- what a call changes
 
+-- one opening more, up to where counts stop
 abbrev pub counted : ℕ → ℕ
 counted opened = min (opened + 1) greatest
 
@@ -161,9 +176,11 @@ chain_after answer chain = chain
 abbrev pub opened_row : Open → Side → Row → Row
 opened_row answer role row = with_chain role (chain_after answer (chain_of role row)) row
 
+-- a chain of one token
 abbrev pub first_chain : Token → Chain
 first_chain token = record { last = token; prev = None; opened = 0 }
 
+-- the row after a creation
 abbrev pub row_created : List ℕ → Created → Option Row → Option Row
 row_created session (Created.New plugin agent) row =
     Some (record {

@@ -10,89 +10,132 @@ use std::alloc::Global;
 use std::process::Abort;
 use std::test::Fail;
 
-const FIRST: Token = Token {
-    count: 1,
-    random: 7,
-};
-
-const SECOND: Token = Token {
-    count: 2,
-    random: 8,
-};
-
-const THIRD: Token = Token {
-    count: 3,
-    random: 10,
-};
-
-const AGENT: Token = Token {
-    count: 1,
-    random: 5,
-};
+fn token(count: u64, random: u64) -> Token {
+    Token { count, random }
+}
 
 fn name(rt: &impl Abort, text: &[u8]) -> SessionName {
     SessionName::new(text).expect(rt, "it is a name")
 }
 
-fn again<K: Keeper + Drop>(register: Register<K>) -> Register<K> {
-    Register::new(register.into_keeper())
+// Each of these makes a register, and gives its keeper back.
+
+fn create<K: Keeper + Drop>(
+    rt: &impl Abort,
+    alloc: Global,
+    keeper: K,
+    session: &SessionName,
+    answer: Created,
+) -> K {
+    let mut register = Register::new(keeper);
+    assert_eq!(rt; register.create(alloc, session, 7, 5), Ok(answer));
+    register.into_keeper()
+}
+
+fn open<K: Keeper + Drop>(
+    rt: &impl Abort,
+    alloc: Global,
+    keeper: K,
+    session: &SessionName,
+    shown: (Side, Token, u64),
+    answer: Open,
+) -> K {
+    let mut register = Register::new(keeper);
+    let (role, token, fresh) = shown;
+    assert_eq!(rt;
+        register.open(alloc, session, role, token, fresh),
+        Ok(answer)
+    );
+    register.into_keeper()
+}
+
+fn end<K: Keeper + Drop>(
+    rt: &impl Abort,
+    alloc: Global,
+    keeper: K,
+    session: &SessionName,
+    answer: Closing,
+) -> K {
+    let mut register = Register::new(keeper);
+    assert_eq!(rt; register.end(alloc, session), Ok(answer));
+    register.into_keeper()
+}
+
+fn ended<K: Keeper + Drop>(
+    rt: &impl Abort,
+    alloc: Global,
+    keeper: K,
+    session: &SessionName,
+    answer: Option<bool>,
+) -> K {
+    let mut register = Register::new(keeper);
+    assert_eq!(rt; register.ended(alloc, session), Ok(answer));
+    register.into_keeper()
+}
+
+fn counts<K: Keeper + Drop>(
+    rt: &impl Abort,
+    alloc: Global,
+    keeper: K,
+    session: &SessionName,
+    answer: Option<(u64, u64)>,
+) -> K {
+    let mut register = Register::new(keeper);
+    assert_eq!(rt; register.counts(alloc, session), Ok(answer));
+    register.into_keeper()
+}
+
+fn has_no_row<K: Keeper + Drop>(
+    rt: &impl Abort,
+    alloc: Global,
+    mut keeper: K,
+    session: &SessionName,
+) -> K {
+    assert!(rt; matches!(&keeper.get(alloc, session), Ok(None)));
+    assert_eq!(rt; keeper.faults(), 0);
+    keeper
 }
 
 // The session is made and opened, and opened again with the token before the last.
 fn begin<K: Keeper + Drop>(rt: &impl Abort, alloc: Global, keeper: K) -> K {
     let one = name(rt, b"s-1");
-    let mut register = Register::new(keeper);
-    assert_eq!(rt; register.ended(alloc, &one), Ok(None));
-    let mut register = again(register);
-    assert_eq!(rt;
-        register.create(alloc, &one, 7, 5),
-        Ok(Created::New(FIRST, AGENT))
-    );
-    let mut register = again(register);
-    assert_eq!(rt; register.create(alloc, &one, 1, 2), Ok(Created::Exists));
-    let mut register = again(register);
-    let opened = register.open(alloc, &one, Side::Plugin, FIRST, 8);
-    assert_eq!(rt; opened, Ok(Open::Successor(SECOND)));
-    let mut register = again(register);
-    let opened = register.open(alloc, &one, Side::Plugin, FIRST, 9);
-    assert_eq!(rt; opened, Ok(Open::Same(SECOND)));
-    let mut register = again(register);
-    assert_eq!(rt; register.ended(alloc, &one), Ok(Some(false)));
-    register.into_keeper()
+    let new = Created::New(token(1, 7), token(1, 5));
+    let keeper = create(rt, alloc, keeper, &one, new);
+    let keeper = create(rt, alloc, keeper, &one, Created::Exists);
+    let first = (Side::Plugin, token(1, 7), 8);
+    let keeper = open(rt, alloc, keeper, &one, first, Open::Successor(token(2, 8)));
+    let again = (Side::Plugin, token(1, 7), 9);
+    let keeper = open(rt, alloc, keeper, &one, again, Open::Same(token(2, 8)));
+    ended(rt, alloc, keeper, &one, Some(false))
 }
 
 // It is opened once more, an older token is refused, and it is ended.
 fn go_on<K: Keeper + Drop>(rt: &impl Abort, alloc: Global, keeper: K) -> K {
     let one = name(rt, b"s-1");
     let two = name(rt, b"s-2");
-    let mut register = Register::new(keeper);
-    let opened = register.open(alloc, &one, Side::Plugin, SECOND, 10);
-    assert_eq!(rt; opened, Ok(Open::Successor(THIRD)));
-    let mut register = again(register);
-    let opened = register.open(alloc, &one, Side::Plugin, FIRST, 11);
-    assert_eq!(rt; opened, Ok(Open::BadToken));
-    let mut register = again(register);
-    let opened = register.open(alloc, &one, Side::Agent, THIRD, 11);
-    assert_eq!(rt; opened, Ok(Open::BadToken), "of the other end");
-    let mut register = again(register);
-    assert_eq!(rt; register.end(alloc, &one), Ok(Closing::Done));
-    let mut register = again(register);
-    let opened = register.open(alloc, &one, Side::Plugin, THIRD, 12);
-    assert_eq!(rt; opened, Ok(Open::Ended));
-    let mut register = again(register);
-    let opened = register.open(alloc, &two, Side::Plugin, THIRD, 13);
-    assert_eq!(rt; opened, Ok(Open::NoSession));
-    let mut register = again(register);
-    assert_eq!(rt; register.end(alloc, &two), Ok(Closing::NoSession));
-    let mut register = again(register);
-    assert_eq!(rt; register.ended(alloc, &one), Ok(Some(true)));
-    assert_eq!(rt; register.ended(alloc, &two), Ok(None));
-    assert_eq!(rt; register.counts(alloc, &one), Ok(Some((3, 0))));
-    assert_eq!(rt; register.counts(alloc, &two), Ok(None));
-    let mut keeper = register.into_keeper();
-    assert!(rt; matches!(&keeper.get(alloc, &two), Ok(None)));
-    assert_eq!(rt; keeper.faults(), 0);
-    keeper
+    let second = (Side::Plugin, token(2, 8), 10);
+    let keeper = open(
+        rt,
+        alloc,
+        keeper,
+        &one,
+        second,
+        Open::Successor(token(3, 10)),
+    );
+    let older = (Side::Plugin, token(1, 7), 11);
+    let keeper = open(rt, alloc, keeper, &one, older, Open::BadToken);
+    let of_the_other = (Side::Agent, token(3, 10), 11);
+    let keeper = open(rt, alloc, keeper, &one, of_the_other, Open::BadToken);
+    let keeper = end(rt, alloc, keeper, &one, Closing::Done);
+    let last = (Side::Plugin, token(3, 10), 12);
+    let keeper = open(rt, alloc, keeper, &one, last, Open::Ended);
+    let keeper = open(rt, alloc, keeper, &two, last, Open::NoSession);
+    let keeper = end(rt, alloc, keeper, &two, Closing::NoSession);
+    let keeper = ended(rt, alloc, keeper, &one, Some(true));
+    let keeper = ended(rt, alloc, keeper, &two, None);
+    let keeper = counts(rt, alloc, keeper, &one, Some((3, 0)));
+    let keeper = counts(rt, alloc, keeper, &two, None);
+    has_no_row(rt, alloc, keeper, &two)
 }
 
 #[test]
@@ -110,8 +153,13 @@ fn registers_over_tables_in_memory_make_one_chain(rt: HostRuntime) -> Result<(),
     Ok(())
 }
 
-fn close(store: Option<Connection<FileStore<File>>>) -> Result<(), Error> {
-    match store {
+fn over_file(rt: &HostRuntime) -> Result<SqliteKeeper<FileStore<File>>, Error> {
+    let store = Connection::open(rt, "register.db")?;
+    Ok(SqliteKeeper::over(Some(store)))
+}
+
+fn close(keeper: SqliteKeeper<FileStore<File>>) -> Result<(), Error> {
+    match keeper.into_store() {
         Some(store) => store.close(),
         None => Ok(()),
     }
@@ -121,35 +169,29 @@ fn close(store: Option<Connection<FileStore<File>>>) -> Result<(), Error> {
 #[test]
 fn the_chain_goes_on_when_its_file_is_opened_again(rt: HostRuntime) -> Result<(), Fail> {
     let alloc = rt.alloc();
-    let store = Connection::open(&rt, "register.db")?;
-    let _ = begin(&rt, alloc, SqliteKeeper::over(Some(store)));
-    let store = Connection::open(&rt, "register.db")?;
-    let keeper = go_on(&rt, alloc, SqliteKeeper::over(Some(store)));
-    close(keeper.into_store())?;
-    let mut register = Register::new(SqliteKeeper::over(Some(Connection::open(
-        &rt,
-        "register.db",
-    )?)));
     let one = name(&rt, b"s-1");
-    assert_eq!(rt; register.ended(alloc, &one), Ok(Some(true)));
-    assert_eq!(rt; register.counts(alloc, &one), Ok(Some((3, 0))));
+    let _ = begin(&rt, alloc, over_file(&rt)?);
+    let keeper = go_on(&rt, alloc, over_file(&rt)?);
+    close(keeper)?;
+    let keeper = ended(&rt, alloc, over_file(&rt)?, &one, Some(true));
+    let keeper = counts(&rt, alloc, keeper, &one, Some((3, 0)));
+    close(keeper)?;
     Ok(())
+}
+
+fn with_row(rt: &impl Abort, alloc: Global, row: Row) -> MapKeeper {
+    let mut keeper = MapKeeper::new(alloc);
+    assert_eq!(rt; keeper.put(alloc, row), Ok(()));
+    keeper
 }
 
 #[test]
 fn a_chain_is_spent_at_the_greatest_count(rt: HostRuntime) {
     let alloc = rt.alloc();
     let greatest = 9_223_372_036_854_775_807;
-    let last = Token {
-        count: greatest,
-        random: 1,
-    };
-    let prev = Token {
-        count: greatest - 1,
-        random: 2,
-    };
+    let last = token(greatest, 1);
+    let prev = token(greatest - 1, 2);
     let one = name(&rt, b"s-1");
-    let mut keeper = MapKeeper::new(alloc);
     let row = Row {
         session: one,
         ended: false,
@@ -159,16 +201,27 @@ fn a_chain_is_spent_at_the_greatest_count(rt: HostRuntime) {
             opened: greatest,
         },
         agent: Chain {
-            last: AGENT,
+            last: token(1, 5),
             prev: None,
             opened: 0,
         },
     };
-    assert_eq!(rt; keeper.put(alloc, row), Ok(()));
-    let mut register = Register::new(keeper);
-    let opened = register.open(alloc, &one, Side::Plugin, prev, 3);
-    assert_eq!(rt; opened, Ok(Open::Same(last)));
-    let opened = register.open(alloc, &one, Side::Plugin, last, 4);
-    assert_eq!(rt; opened, Ok(Open::Spent));
-    assert_eq!(rt; register.counts(alloc, &one), Ok(Some((greatest, 0))));
+    let keeper = with_row(&rt, alloc, row);
+    let keeper = open(
+        &rt,
+        alloc,
+        keeper,
+        &one,
+        (Side::Plugin, prev, 3),
+        Open::Same(last),
+    );
+    let keeper = open(
+        &rt,
+        alloc,
+        keeper,
+        &one,
+        (Side::Plugin, last, 4),
+        Open::Spent,
+    );
+    let _ = counts(&rt, alloc, keeper, &one, Some((greatest, 0)));
 }

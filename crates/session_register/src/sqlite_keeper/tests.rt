@@ -2,7 +2,7 @@
 
 use crate::{IoFault, Keeper, Open, Register, Row, SessionName, SqliteKeeper, Token};
 use chan_values::{Side, Text};
-use register_sql::{RawOldRow, prepare, select_old, select_row};
+use register_sql::{RawOldRow, select_old, select_row};
 use sqlite::{Connection, Error, MemStore};
 use std::alloc::Global;
 use std::process::Abort;
@@ -11,6 +11,10 @@ use std::test::Fail;
 const OLD_TABLE: &str = "CREATE TABLE sessions (session TEXT NOT NULL PRIMARY KEY, \
      ended INTEGER NOT NULL, p_last BLOB NOT NULL, p_prev BLOB, \
      a_last BLOB NOT NULL, a_prev BLOB) STRICT";
+
+const NEW_TABLE: &str = "CREATE TABLE sessions2 (session TEXT NOT NULL PRIMARY KEY, \
+     ended INTEGER NOT NULL, p_last BLOB NOT NULL, p_prev BLOB, p_opened INTEGER NOT NULL, \
+     a_last BLOB NOT NULL, a_prev BLOB, a_opened INTEGER NOT NULL) STRICT";
 
 // The plugin's last token has count 3, the agent's count 1.
 const OLD_ROW: &str = "INSERT INTO sessions VALUES ('s-1', 0, \
@@ -36,10 +40,18 @@ fn name(rt: &impl Abort, text: &[u8]) -> SessionName {
     SessionName::new(text).expect(rt, "it is a name")
 }
 
-fn with_old_table(alloc: Global, row: &str) -> Result<Connection<MemStore>, Error> {
+fn run(store: &mut Connection<MemStore>, sql: &str) -> Result<(), Error> {
+    store.execute_batch(sql)
+}
+
+fn count(store: &mut Connection<MemStore>, sql: &str) -> Result<i64, Error> {
+    store.query_row(sql, &[])?.get(0)
+}
+
+fn in_memory(alloc: Global, table: &str, row: &str) -> Result<Connection<MemStore>, Error> {
     let mut store = Connection::open_in_memory(alloc)?;
-    store.execute_batch(OLD_TABLE)?;
-    store.execute_batch(row)?;
+    run(&mut store, table)?;
+    run(&mut store, row)?;
     Ok(store)
 }
 
@@ -67,86 +79,171 @@ fn is_old_row(row: &RawOldRow) -> bool {
         && row.agent.prev.is_none()
 }
 
+fn opens(
+    rt: &impl Abort,
+    alloc: Global,
+    keeper: SqliteKeeper<MemStore>,
+    shown: (Side, Token, u64),
+    answer: Result<Open, IoFault>,
+) -> SqliteKeeper<MemStore> {
+    let one = name(rt, b"s-1");
+    let mut register = Register::new(keeper);
+    let (role, token, fresh) = shown;
+    assert_eq!(rt; register.open(alloc, &one, role, token, fresh), answer);
+    register.into_keeper()
+}
+
+fn counts(
+    rt: &impl Abort,
+    alloc: Global,
+    keeper: SqliteKeeper<MemStore>,
+    answer: Result<Option<(u64, u64)>, IoFault>,
+) -> SqliteKeeper<MemStore> {
+    let mut register = Register::new(keeper);
+    assert_eq!(rt; register.counts(alloc, &name(rt, b"s-1")), answer);
+    register.into_keeper()
+}
+
 #[test]
 fn an_older_row_is_upgraded_when_it_is_read(rt: HostRuntime) -> Result<(), Fail> {
     let alloc = rt.alloc();
-    let one = name(&rt, b"s-1");
-    let keeper = SqliteKeeper::over(Some(with_old_table(alloc, OLD_ROW)?));
-    let mut register = Register::new(keeper);
-    assert_eq!(rt; register.counts(alloc, &one), Ok(Some((2, 0))));
-    let opened = register.open(alloc, &one, Side::Plugin, PREV, 1);
-    assert_eq!(rt; opened, Ok(Open::Same(LAST)));
-    assert_eq!(rt; register.counts(alloc, &one), Ok(Some((3, 0))));
-    let opened = register.open(alloc, &one, Side::Agent, AGENT, 6);
+    let keeper = SqliteKeeper::over(Some(in_memory(alloc, OLD_TABLE, OLD_ROW)?));
+    let keeper = counts(&rt, alloc, keeper, Ok(Some((2, 0))));
+    let keeper = opens(
+        &rt,
+        alloc,
+        keeper,
+        (Side::Plugin, PREV, 1),
+        Ok(Open::Same(LAST)),
+    );
+    let keeper = counts(&rt, alloc, keeper, Ok(Some((3, 0))));
     let next = Token {
         count: 2,
         random: 6,
     };
-    assert_eq!(rt; opened, Ok(Open::Successor(next)));
-    assert_eq!(rt; register.counts(alloc, &one), Ok(Some((3, 1))));
-    assert_eq!(rt; register.into_keeper().faults(), 0);
+    let keeper = opens(
+        &rt,
+        alloc,
+        keeper,
+        (Side::Agent, AGENT, 6),
+        Ok(Open::Successor(next)),
+    );
+    let keeper = counts(&rt, alloc, keeper, Ok(Some((3, 1))));
+    assert_eq!(rt; keeper.faults(), 0);
     Ok(())
 }
 
-#[test]
-fn an_older_row_stays_when_the_upgraded_one_is_put(rt: HostRuntime) -> Result<(), Fail> {
-    let alloc = rt.alloc();
-    let one = name(&rt, b"s-1");
-    let text = Text::new(String::from_str(alloc, "s-1")?);
-    let mut keeper = SqliteKeeper::over(Some(with_old_table(alloc, OLD_ROW)?));
-    let Ok(Some(row)) = keeper.get(alloc, &one) else {
-        assert!(rt; false, "the row is found");
-        return Ok(());
-    };
-    assert!(rt; is_upgraded(&row));
-    assert_eq!(rt; keeper.put(alloc, row), Ok(()));
-    match keeper.get(alloc, &one) {
-        Ok(Some(row)) => assert!(rt; is_upgraded(&row)),
-        _ => assert!(rt; false, "the row is found"),
+// The row that the keeper gives, which has to be the upgraded one.
+fn upgraded_in(rt: &impl Abort, alloc: Global, keeper: &mut SqliteKeeper<MemStore>) -> Option<Row> {
+    match keeper.get(alloc, &name(rt, b"s-1")) {
+        Ok(Some(row)) => {
+            assert!(rt; is_upgraded(&row));
+            Some(row)
+        }
+        _ => {
+            assert!(rt; false, "the row is found");
+            None
+        }
     }
-    let Some(mut store) = keeper.into_store() else {
-        assert!(rt; false, "there is a store");
-        return Ok(());
-    };
-    match select_row(&mut store, &text) {
+}
+
+fn has_both_rows(rt: &impl Abort, store: &mut Connection<MemStore>, session: &Text) {
+    match select_row(store, session) {
         Ok(Some(raw)) => {
             assert_eq!(rt; raw.plugin.opened, 2);
             assert_eq!(rt; raw.agent.opened, 0);
         }
         _ => assert!(rt; false, "the row is written"),
     }
-    match select_old(&mut store, &text) {
+    match select_old(store, session) {
         Ok(Some(raw)) => assert!(rt; is_old_row(&raw)),
         _ => assert!(rt; false, "the older row is there"),
+    }
+}
+
+#[test]
+fn an_older_row_stays_when_the_upgraded_one_is_put(rt: HostRuntime) -> Result<(), Fail> {
+    let alloc = rt.alloc();
+    let text = Text::new(String::from_str(alloc, "s-1")?);
+    let mut keeper = SqliteKeeper::over(Some(in_memory(alloc, OLD_TABLE, OLD_ROW)?));
+    if let Some(row) = upgraded_in(&rt, alloc, &mut keeper) {
+        assert_eq!(rt; keeper.put(alloc, row), Ok(()));
+    }
+    let _ = upgraded_in(&rt, alloc, &mut keeper);
+    match keeper.into_store() {
+        Some(mut store) => has_both_rows(&rt, &mut store, &text),
+        None => assert!(rt; false, "there is a store"),
     }
     Ok(())
 }
 
-// A keeper over a store with one row refuses it, and leaves it as it was.
+fn creates_nothing(
+    rt: &impl Abort,
+    alloc: Global,
+    keeper: SqliteKeeper<MemStore>,
+) -> SqliteKeeper<MemStore> {
+    let mut register = Register::new(keeper);
+    let made = register.create(alloc, &name(rt, b"s-1"), 1, 2);
+    assert_eq!(rt; made, Err(IoFault::Failed));
+    register.into_keeper()
+}
+
+fn ends_nothing(
+    rt: &impl Abort,
+    alloc: Global,
+    keeper: SqliteKeeper<MemStore>,
+) -> SqliteKeeper<MemStore> {
+    let mut register = Register::new(keeper);
+    assert_eq!(rt;
+        register.end(alloc, &name(rt, b"s-1")),
+        Err(IoFault::Failed)
+    );
+    register.into_keeper()
+}
+
+fn tells_no_end(
+    rt: &impl Abort,
+    alloc: Global,
+    keeper: SqliteKeeper<MemStore>,
+) -> SqliteKeeper<MemStore> {
+    let mut register = Register::new(keeper);
+    assert_eq!(rt;
+        register.ended(alloc, &name(rt, b"s-1")),
+        Err(IoFault::Failed)
+    );
+    register.into_keeper()
+}
+
+// Each of the five calls fails, and is counted.
+fn fails(rt: &impl Abort, alloc: Global, keeper: SqliteKeeper<MemStore>) -> SqliteKeeper<MemStore> {
+    let keeper = creates_nothing(rt, alloc, keeper);
+    let keeper = opens(
+        rt,
+        alloc,
+        keeper,
+        (Side::Plugin, AGENT, 3),
+        Err(IoFault::Failed),
+    );
+    let keeper = ends_nothing(rt, alloc, keeper);
+    let keeper = tells_no_end(rt, alloc, keeper);
+    let keeper = counts(rt, alloc, keeper, Err(IoFault::Failed));
+    assert_eq!(rt; keeper.faults(), 5);
+    keeper
+}
+
+// A keeper over a store fails, and leaves the one row that the query counts.
 fn fails_over(
     rt: &impl Abort,
     alloc: Global,
     mut store: Connection<MemStore>,
     rows: &str,
-) -> Result<(), Fail> {
-    let one = name(rt, b"s-1");
-    let before: i64 = store.query_row(rows, &[])?.get(0)?;
-    let mut register = Register::new(SqliteKeeper::over(Some(store)));
-    assert_eq!(rt; register.create(alloc, &one, 1, 2), Err(IoFault::Failed));
-    let opened = register.open(alloc, &one, Side::Plugin, AGENT, 3);
-    assert_eq!(rt; opened, Err(IoFault::Failed));
-    assert_eq!(rt; register.end(alloc, &one), Err(IoFault::Failed));
-    assert_eq!(rt; register.ended(alloc, &one), Err(IoFault::Failed));
-    assert_eq!(rt; register.counts(alloc, &one), Err(IoFault::Failed));
-    let keeper = register.into_keeper();
-    assert_eq!(rt; keeper.faults(), 5);
-    let Some(mut store) = keeper.into_store() else {
-        assert!(rt; false, "there is a store");
-        return Ok(());
-    };
-    let after: i64 = store.query_row(rows, &[])?.get(0)?;
-    assert_eq!(rt; before, 1);
-    assert_eq!(rt; after, 1, "the row is as it was");
+) -> Result<(), Error> {
+    assert_eq!(rt; count(&mut store, rows)?, 1);
+    let keeper = fails(rt, alloc, SqliteKeeper::over(Some(store)));
+    match keeper.into_store() {
+        Some(mut store) => assert_eq!(rt; count(&mut store, rows)?, 1, "the row is as it was"),
+        None => assert!(rt; false, "there is a store"),
+    }
     Ok(())
 }
 
@@ -160,33 +257,36 @@ const BAD_TOKENS: [&str; 4] = [
 
 const GOOD_TOKEN: &str = "x'00000000000000010000000000000005'";
 
+// A row of the older table and one of the newer, with these tokens.
+fn both_fail(rt: &impl Abort, alloc: Global, tokens: [&str; 4]) -> Result<(), Fail> {
+    let [p_last, p_prev, a_last, a_prev] = tokens;
+    let old = format!(in alloc;
+        "INSERT INTO sessions VALUES ('s-1', 0, {p_last}, {p_prev}, {a_last}, {a_prev})"
+    )?;
+    let new = format!(in alloc;
+        "INSERT INTO sessions2 VALUES ('s-1', 0, {p_last}, {p_prev}, 0, {a_last}, {a_prev}, 0)"
+    )?;
+    let with = format!(in alloc;
+        "p_last = {p_last} AND p_prev = {p_prev} AND a_last = {a_last} AND a_prev = {a_prev}"
+    )?;
+    let old_rows = format!(in alloc; "SELECT count(*) FROM sessions WHERE {with}")?;
+    let new_rows = format!(in alloc; "SELECT count(*) FROM sessions2 WHERE {with}")?;
+    fails_over(rt, alloc, in_memory(alloc, OLD_TABLE, &old)?, &old_rows)?;
+    fails_over(rt, alloc, in_memory(alloc, NEW_TABLE, &new)?, &new_rows)?;
+    Ok(())
+}
+
 #[test]
 fn a_stored_token_out_of_form_fails(rt: HostRuntime) -> Result<(), Fail> {
-    let alloc = rt.alloc();
+    let good = GOOD_TOKEN;
     for bad in BAD_TOKENS {
-        for place in 0..4 {
-            let mut tokens = [GOOD_TOKEN; 4];
-            tokens[place] = bad;
-            let [p_last, p_prev, a_last, a_prev] = tokens;
-            let old = format!(in alloc;
-                "INSERT INTO sessions VALUES ('s-1', 0, {p_last}, {p_prev}, {a_last}, {a_prev})"
-            )?;
-            let rows = format!(in alloc;
-                "SELECT count(*) FROM sessions WHERE session = 's-1' AND p_last = {p_last} \
-                 AND p_prev = {p_prev} AND a_last = {a_last} AND a_prev = {a_prev}"
-            )?;
-            fails_over(&rt, alloc, with_old_table(alloc, &old)?, &rows)?;
-            let mut store = Connection::open_in_memory(alloc)?;
-            assert!(rt; prepare(&mut store).is_ok());
-            let new = format!(in alloc;
-                "INSERT INTO sessions2 VALUES ('s-1', 0, {p_last}, {p_prev}, 0, {a_last}, {a_prev}, 0)"
-            )?;
-            store.execute_batch(&new)?;
-            let rows = format!(in alloc;
-                "SELECT count(*) FROM sessions2 WHERE session = 's-1' AND p_last = {p_last} \
-                 AND p_prev = {p_prev} AND a_last = {a_last} AND a_prev = {a_prev}"
-            )?;
-            fails_over(&rt, alloc, store, &rows)?;
+        for tokens in [
+            [bad, good, good, good],
+            [good, bad, good, good],
+            [good, good, bad, good],
+            [good, good, good, bad],
+        ] {
+            both_fail(&rt, rt.alloc(), tokens)?;
         }
     }
     Ok(())
@@ -196,17 +296,14 @@ fn a_stored_token_out_of_form_fails(rt: HostRuntime) -> Result<(), Fail> {
 fn a_negative_count_of_openings_fails(rt: HostRuntime) -> Result<(), Fail> {
     let alloc = rt.alloc();
     for (plugin, agent) in [(-1i64, 0i64), (0, -1)] {
-        let mut store = with_old_table(alloc, OLD_ROW)?;
-        assert!(rt; prepare(&mut store).is_ok());
-        let new = format!(in alloc;
+        let row = format!(in alloc;
             "INSERT INTO sessions2 VALUES ('s-1', 0, {GOOD_TOKEN}, NULL, {plugin}, \
              {GOOD_TOKEN}, NULL, {agent})"
         )?;
-        store.execute_batch(&new)?;
         let rows = format!(in alloc;
             "SELECT count(*) FROM sessions2 WHERE p_opened = {plugin} AND a_opened = {agent}"
         )?;
-        fails_over(&rt, alloc, store, &rows)?;
+        fails_over(&rt, alloc, in_memory(alloc, NEW_TABLE, &row)?, &rows)?;
     }
     Ok(())
 }
@@ -214,27 +311,18 @@ fn a_negative_count_of_openings_fails(rt: HostRuntime) -> Result<(), Fail> {
 #[test]
 fn a_session_has_ended_where_its_flag_is_not_0(rt: HostRuntime) -> Result<(), Fail> {
     let alloc = rt.alloc();
-    let one = name(&rt, b"s-1");
     for (flag, ended) in [(0i64, false), (1, true), (-7, true)] {
         let row = format!(in alloc;
             "INSERT INTO sessions VALUES ('s-1', {flag}, {GOOD_TOKEN}, NULL, {GOOD_TOKEN}, NULL)"
         )?;
-        let keeper = SqliteKeeper::over(Some(with_old_table(alloc, &row)?));
-        assert_eq!(rt; Register::new(keeper).ended(alloc, &one), Ok(Some(ended)));
+        let keeper = SqliteKeeper::over(Some(in_memory(alloc, OLD_TABLE, &row)?));
+        let mut register = Register::new(keeper);
+        assert_eq!(rt; register.ended(alloc, &name(&rt, b"s-1")), Ok(Some(ended)));
     }
     Ok(())
 }
 
 #[test]
 fn every_call_without_a_store_fails(rt: HostRuntime) {
-    let alloc = rt.alloc();
-    let one = name(&rt, b"s-1");
-    let mut register: Register<SqliteKeeper<MemStore>> = Register::new(SqliteKeeper::over(None));
-    assert_eq!(rt; register.create(alloc, &one, 1, 2), Err(IoFault::Failed));
-    let opened = register.open(alloc, &one, Side::Plugin, AGENT, 3);
-    assert_eq!(rt; opened, Err(IoFault::Failed));
-    assert_eq!(rt; register.end(alloc, &one), Err(IoFault::Failed));
-    assert_eq!(rt; register.ended(alloc, &one), Err(IoFault::Failed));
-    assert_eq!(rt; register.counts(alloc, &one), Err(IoFault::Failed));
-    assert_eq!(rt; register.into_keeper().faults(), 5);
+    let _ = fails(&rt, rt.alloc(), SqliteKeeper::over(None));
 }
