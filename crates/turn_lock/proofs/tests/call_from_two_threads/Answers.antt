@@ -21,7 +21,7 @@ Caller-send κ R y =
     let seat = Seat_field-send Counter.the_row unit u64 unit turns.ghosts Counter-send in
     recorded_send _ _ _ (Caller.the_type κ R).to_one (struct_send (shape (Caller.the_type κ R)) (
       shr_send κ.mir κ.lft R y,
-      (shr_send κ.mir κ.lft (TurnLock.the_row Counter.the_row unit u64 unit turns.ghosts) lock, (seat, tt)),
+      (shr_send κ.mir κ.lft (TurnLock.the_row Counter.the_row unit u64 unit turns.ghosts) lock, (seat, (search sendable, (search sendable, tt)))),
     ))
 
 pub run_both-one-requires-send-J : goal.run_both-one-requires-send-J
@@ -31,7 +31,7 @@ pub run_both-one-requires-send-K : goal.run_both-one-requires-send-K
 run_both-one-requires-send-K g c κs within = search (sendable, Caller-send)
 
 pub run_both-one-requires-send-J-Done : goal.run_both-one-requires-send-J-Done
-run_both-one-requires-send-J-Done g c κs within = search (sendable, Seat-send) depth 20
+run_both-one-requires-send-J-Done g c κs within = search (sendable, Seat-send, Counter-send) depth 20
 
 pub run_both-one-requires-send-K-Done : goal.run_both-one-requires-send-K-Done
-run_both-one-requires-send-K-Done g c κs within = search (sendable, Seat-send) depth 20
+run_both-one-requires-send-K-Done g c κs within = search (sendable, Seat-send, Counter-send) depth 20
