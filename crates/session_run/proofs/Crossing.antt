@@ -3,7 +3,6 @@ use denote.RattleType.{RattleType}
 use denote.Builtin.{u64}
 use denote.Param.Send.{IsSend, IsSync, sendable}
 use Rattle.std.proofs.Crossing.{crosses}
-use Rattle.std.proofs.MapsCrossing as maps
 use Rattle.channel_core.specs.contracts.call.EndAnswer as EndAnswer
 use Rattle.channel_core.specs.contracts.call.EndCall as EndCall
 use Rattle.turn_lock.specs.contracts.seat.Seat as Seat
@@ -14,7 +13,7 @@ use Rattle.session_run.specs.contracts.held.HeldTurn.TheImpl as turns
 
 -- an end may cross
 pub Held-send : IsSend Held.the_row
-Held-send = search (sendable, maps.BTreeMap-send, crosses) depth 60
+Held-send = search (sendable, crosses) depth 60 fits 20000
 
 abbrev pub TheLock : RattleType
 TheLock = TurnLock.the_row Held.the_row EndCall.the_row EndAnswer.the_row u64 turns.ghosts
