@@ -1,8 +1,7 @@
-//! The worked chain, with a new register before each call, over each keeper; and where counts stop.
+//! The worked chain, with a new register before each call, over each keeper.
 
 use crate::{
-    Chain, Closing, Created, Keeper, MapKeeper, Open, Register, Row, SessionName, SqliteKeeper,
-    Token,
+    Closing, Created, Keeper, MapKeeper, Open, Register, SessionName, SqliteKeeper, Token,
 };
 use chan_values::Side;
 use sqlite::{Connection, Error, File, FileStore};
@@ -177,51 +176,4 @@ fn the_chain_goes_on_when_its_file_is_opened_again(rt: HostRuntime) -> Result<()
     let keeper = counts(&rt, alloc, keeper, &one, Some((3, 0)));
     close(keeper)?;
     Ok(())
-}
-
-fn with_row(rt: &impl Abort, alloc: Global, row: Row) -> MapKeeper {
-    let mut keeper = MapKeeper::new(alloc);
-    assert_eq!(rt; keeper.put(alloc, row), Ok(()));
-    keeper
-}
-
-#[test]
-fn a_chain_is_spent_at_the_greatest_count(rt: HostRuntime) {
-    let alloc = rt.alloc();
-    let greatest = 9_223_372_036_854_775_807;
-    let last = token(greatest, 1);
-    let prev = token(greatest - 1, 2);
-    let one = name(&rt, b"s-1");
-    let row = Row {
-        session: one,
-        ended: false,
-        plugin: Chain {
-            last,
-            prev: Some(prev),
-            opened: greatest,
-        },
-        agent: Chain {
-            last: token(1, 5),
-            prev: None,
-            opened: 0,
-        },
-    };
-    let keeper = with_row(&rt, alloc, row);
-    let keeper = open(
-        &rt,
-        alloc,
-        keeper,
-        &one,
-        (Side::Plugin, prev, 3),
-        Open::Same(last),
-    );
-    let keeper = open(
-        &rt,
-        alloc,
-        keeper,
-        &one,
-        (Side::Plugin, last, 4),
-        Open::Spent,
-    );
-    let _ = counts(&rt, alloc, keeper, &one, Some((greatest, 0)));
 }

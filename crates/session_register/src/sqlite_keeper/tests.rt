@@ -1,8 +1,7 @@
 //! Stored rows: older ones, and those that are not as they should be; and no store at all.
 
 use crate::{IoFault, Keeper, Open, Register, Row, SessionName, SqliteKeeper, Token};
-use chan_values::{Side, Text};
-use register_sql::{RawOldRow, select_old, select_row};
+use chan_values::Side;
 use sqlite::{Connection, Error, MemStore};
 use std::alloc::Global;
 use std::process::Abort;
@@ -64,19 +63,6 @@ fn is_upgraded(row: &Row) -> bool {
         && row.agent.last == AGENT
         && row.agent.prev.is_none()
         && row.agent.opened == 0
-}
-
-fn is_old_row(row: &RawOldRow) -> bool {
-    let prev = match &row.plugin.prev {
-        Some(prev) => prev.as_slice() == PREV.to_bytes().as_slice(),
-        None => false,
-    };
-    row.session.as_str() == "s-1"
-        && row.ended == 0
-        && row.plugin.last.as_slice() == LAST.to_bytes().as_slice()
-        && prev
-        && row.agent.last.as_slice() == AGENT.to_bytes().as_slice()
-        && row.agent.prev.is_none()
 }
 
 fn opens(
@@ -145,36 +131,6 @@ fn upgraded_in(rt: &impl Abort, alloc: Global, keeper: &mut SqliteKeeper<MemStor
             None
         }
     }
-}
-
-fn has_both_rows(rt: &impl Abort, store: &mut Connection<MemStore>, session: &Text) {
-    match select_row(store, session) {
-        Ok(Some(raw)) => {
-            assert_eq!(rt; raw.plugin.opened, 2);
-            assert_eq!(rt; raw.agent.opened, 0);
-        }
-        _ => assert!(rt; false, "the row is written"),
-    }
-    match select_old(store, session) {
-        Ok(Some(raw)) => assert!(rt; is_old_row(&raw)),
-        _ => assert!(rt; false, "the older row is there"),
-    }
-}
-
-#[test]
-fn an_older_row_stays_when_the_upgraded_one_is_put(rt: HostRuntime) -> Result<(), Fail> {
-    let alloc = rt.alloc();
-    let text = Text::new(String::from_str(alloc, "s-1")?);
-    let mut keeper = SqliteKeeper::over(Some(in_memory(alloc, OLD_TABLE, OLD_ROW)?));
-    if let Some(row) = upgraded_in(&rt, alloc, &mut keeper) {
-        assert_eq!(rt; keeper.put(alloc, row), Ok(()));
-    }
-    let _ = upgraded_in(&rt, alloc, &mut keeper);
-    match keeper.into_store() {
-        Some(mut store) => has_both_rows(&rt, &mut store, &text),
-        None => assert!(rt; false, "there is a store"),
-    }
-    Ok(())
 }
 
 fn creates_nothing(
