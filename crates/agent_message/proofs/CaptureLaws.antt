@@ -14,7 +14,7 @@ use Rattle.agent_message.specs.declared.capture_fault.CaptureCause.TheVariants.{
 use Rattle.agent_message.specs.declared.capture_fault.CaptureFault.{CaptureFault}
 use Rattle.agent_message.specs.declared.message.Message.{Message}
 use Rattle.agent_message.specs.declared.refusal.Refusal.{Refusal}
-use Rattle.agent_message.proofs.Faults.{one_answer}
+use Rattle.agent_message.proofs.SoundSpelling.{one_answer}
 use Rattle.agent_message.proofs.OneAnswer.{an_answer}
 use Rattle.agent_message.proofs.PieceLemmas.{Pieces-append, Pieces-join, length-piece, rest_behind, said_length-piece, sound_is_short, split_piece}
 use Rattle.agent_message.proofs.Spelling.{Decodes-canonical, IsBytes, IsBytes-part}

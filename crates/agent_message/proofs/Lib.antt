@@ -1,5 +1,6 @@
 pub mod CaptureLaws
 pub mod Faults
+pub mod SoundSpelling
 pub mod NameLemmas
 pub mod OneAnswer
 pub mod Parts

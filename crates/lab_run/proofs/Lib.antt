@@ -1,6 +1,7 @@
 pub mod WritingLemmas
 pub mod EmissionLemmas
 pub mod DamageLemmas
+pub mod HurtLemmas
 pub mod CallLemmas
 pub mod StepLemmas
 pub mod LineLemmas

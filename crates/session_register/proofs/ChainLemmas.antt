@@ -9,7 +9,8 @@ use Rattle.session_register.specs.Rows.{Changes, Entry, IsAnswered, Meets, row_a
 use Rattle.session_register.specs.Chains.{AreAnswered, ChainsHold, GoesOn, Leads, Shows, is_ended, opening_count, row_told, tokens_given}
 use Rattle.session_register.proofs.NameLemmas.{same_name-true}
 use Rattle.session_register.proofs.EntryLemmas.{or-false, tokens-push, ended-push, one, opening-push, counted_by, row-push, counts-same, count-within, Effect, effect, nothing, row-same, other-effect}
-use Rattle.session_register.proofs.EffectLemmas.{IsSoundAt, IsSound, tells}
+use Rattle.session_register.proofs.EffectLemmas.{IsSoundAt, IsSound}
+use Rattle.session_register.proofs.SameLemmas.{tells}
 
 pub record Known : Type 0 where
   pub ended : Bool

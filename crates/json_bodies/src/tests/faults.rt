@@ -114,6 +114,16 @@ fn each_fault_of_a_request_is_told(rt: HostRuntime) {
             "{\"AgentVersion\":\"\",\"RequestedClientActions\":[{\"ActionType\":null}]}",
             Err(Kind(Member::ActionType)),
         ),
+    ];
+    for (body, answer) in cases {
+        let read = HandshakeRequest::read(rt.alloc(), body.as_bytes()).map(|_| ());
+        assert_eq!(rt; read, answer, "of {body}");
+    }
+}
+
+#[test]
+fn each_fault_of_what_a_request_asks_is_told(rt: HostRuntime) {
+    let cases = [
         (
             "{\"AgentVersion\":\"\",\"RequestedClientActions\":[{\"ActionType\":\"X\",\"ActionParameters\":1}]}",
             Ok(()),
@@ -191,6 +201,16 @@ fn each_fault_of_a_response_is_told(rt: HostRuntime) {
             "{\"ClientVersion\":\"\",\"ProcessedClientActions\":[{},[]]}",
             Err(Kind(Member::ProcessedClientActions)),
         ),
+    ];
+    for (body, answer) in cases {
+        let read = HandshakeResponse::read(rt.alloc(), body.as_bytes()).map(|_| ());
+        assert_eq!(rt; read, answer, "of {body}");
+    }
+}
+
+#[test]
+fn each_fault_of_a_processed_action_is_told(rt: HostRuntime) {
+    let cases = [
         (
             "{\"ClientVersion\":\"\",\"ProcessedClientActions\":[{}]}",
             Err(Missing(Member::ActionStatus)),

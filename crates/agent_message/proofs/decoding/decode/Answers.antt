@@ -1,6 +1,7 @@
 use Rattle.std.proofs.Common.{Err, inl, inr, arith}
 use Rattle.std.proofs.lemmas.Result.{err_from_is_err_and, IfErr-weaker}
-use Rattle.agent_message.proofs.Faults.{accepted, reads, answers, again}
+use Rattle.agent_message.proofs.Faults.{accepted}
+use Rattle.agent_message.proofs.SoundSpelling.{reads, answers, again}
 use Rattle.agent_message.proofs.decoding.decode.Goals as goal
 
 pub returns-in_err-name-clause-only : goal.returns-in_err-name-clause-only

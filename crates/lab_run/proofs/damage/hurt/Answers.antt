@@ -3,7 +3,8 @@ use Rattle.std.proofs.lemmas.Result.{IfOk-weaker}
 use Rattle.chan_values.specs.Sides.{other}
 use Rattle.channel_core.specs.Arrival.{Arrives, IsAnswer}
 use Rattle.channel_core.specs.Wire.{message_of}
-use Rattle.lab_run.proofs.DamageLemmas.{IsDamaged, IsDamaged-copy, outcome_of_hurt-heard, outcome_of_hurt-past, outcome_of_hurt-refused}
+use Rattle.lab_run.proofs.DamageLemmas.{IsDamaged}
+use Rattle.lab_run.proofs.HurtLemmas.{IsDamaged-copy, outcome_of_hurt-heard, outcome_of_hurt-past, outcome_of_hurt-refused}
 use Rattle.lab_run.proofs.damage.hurt.Goals as goal
 
 pub returns-in_default : goal.returns-in_default

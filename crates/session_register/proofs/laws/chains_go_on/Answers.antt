@@ -1,4 +1,4 @@
-use Rattle.session_register.proofs.OldChainLemmas.{chains-go-on}
+use Rattle.session_register.proofs.OldRowLemmas.{chains-go-on}
 use Rattle.session_register.proofs.laws.chains_go_on.Goals as goal
 
 pub returns : goal.returns
