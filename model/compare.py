@@ -87,6 +87,9 @@ def main():
     if others:
         print("model: another report than the stored one:", *others)
         return 1
+    if not agreed:
+        print("model: no stored report")
+        return 1
     end, seed = time.monotonic() + asked.seconds, asked.seed
     while time.monotonic() < end:
         words, script = some_input(seed, asked.modes)
@@ -100,7 +103,7 @@ def main():
         seed += 1
     count = seed - asked.seed
     print(f"model: {agreed} stored reports and {count} random inputs agree, from seed {asked.seed} on")
-    return 0
+    return 0 if count else 1
 
 
 if __name__ == "__main__":
