@@ -1,12 +1,12 @@
 -- Slots of a ring: which numbers share one, and what a write of one slot changes.
-use Rattle.std.proofs.Common.{◌≡◌, ◌⊎◌, ℕ, ◌+◌, ◌*◌, ◌/◌, ◌%◌, ◌<◌, ◌≤◌, zero, suc, Bool, true, false, cond, not, Option, Some, None, is_some, List, length, get_or, set, eqb, ⊎_elim, refl, sym, ap, ◌∙◌, arith}
+use Rattle.std.proofs.Common.{◌≡◌, ◌⊎◌, ℕ, ◌+◌, ◌*◌, ◌/◌, ◌%◌, ◌^◌, ◌<◌, ◌≤◌, zero, suc, Bool, true, false, cond, not, Option, Some, None, is_some, List, [], length, get_or, replicate, set, eqb, ⊎_elim, refl, sym, ap, subst, ◌∙◌, arith}
 use Rattle.std.proofs.lemmas.Bool.{cases_eq, cases_lt, eq-eqb, ne_eqb}
-use Rattle.std.proofs.lemmas.List.{get_or-set_same, get_or-set_other, get_or_read}
+use Rattle.std.proofs.lemmas.List.{get_or-replicate, get_or-set_same, get_or-set_other, get_or_read}
 use Rattle.std.proofs.Math.Nat.{mod-lt}
 use mir.Val.{bool_byte}
-use Rattle.slot_ring.specs.Inside.{numbered, slot_at}
-use Rattle.slot_ring.specs.Ring.{IsRing, value_with, with_value, without}
-use Rattle.slot_ring.proofs.NumberedLemmas.{length-numbered, numbered-ascending, numbered-pass, numbered-set, numbered-within, numbered-without, one_if, value_with-below, value_with-numbered, value_with-past, without-outside}
+use Rattle.slot_ring.specs.Inside.{IsSound, numbered, slot_at}
+use Rattle.slot_ring.specs.Ring.{IsRing, Ring, empty_ring, value_with, with_value, without}
+use Rattle.slot_ring.proofs.NumberedLemmas.{length-numbered, numbered-ascending, numbered-longer, numbered-pass, numbered-set, numbered-within, numbered-without, one_if, value_with-below, value_with-numbered, value_with-past, without-outside}
 
 -- of two numbers less than a capacity apart, only equal ones share a slot
 one_apart : (k n c : ℕ) → 0 < c → n ≤ k → k < n + c → k % c ≡ n % c → k ≡ n
@@ -218,3 +218,35 @@ module _ {T : Type 0} where
         ascending = numbered-ascending g base c;
         within = numbered-within g base (base + c) base c (omega arith) (omega arith);
       }
+
+-- slots without a value, as many as there are numbers
+module _ {T : Type 0} (slots : List (Option T)) (c capacity base : ℕ) (sized : c ≡ capacity)
+    (fresh : slots ≡ replicate capacity None) where
+  -- no number has a value
+  numbered-empty : numbered (slot_at c slots) base c ≡ []
+  numbered-empty =
+      let all : slots ≡ replicate c None =
+      subst (λ (k : ℕ). slots ≡ replicate k None) (sym sized) fresh in
+      numbered-longer (slot_at c slots) base 0 c (omega arith)
+      (λ k low high. rw all (get_or-replicate c (k % c) None None (mod-lt k (omega arith))))
+
+  -- they keep to the invariant of a ring
+  pub IsSound-empty : length slots ≡ c
+      → base ≤ 2 ^ 63
+      → capacity < 2 ^ 63
+      → IsSound c slots base 0
+  IsSound-empty long low small =
+      record {
+        small = low;
+        few = omega arith;
+        sized = long;
+        counted = sym (ap length numbered-empty);
+      }
+
+  -- and are a ring without values
+  pub ring-empty : let ring : Ring T =
+      record { base = base; capacity = c; held = numbered (slot_at c slots) base c } in
+      ring ≡ empty_ring base capacity
+  ring-empty =
+      ap (λ (es : List (ℕ × T)). record { base = base; capacity = c; held = es }) numbered-empty
+      ∙ ap (λ (k : ℕ). record { base = base; capacity = k; held = [] }) sized

@@ -23,9 +23,9 @@ ring_code {T} code =
     (λ _. refl)
 
 module _ {T : Type 0} where
-  -- no value, and no room
-  abbrev pub empty_ring : ℕ → Ring T
-  empty_ring base = record { base = base; capacity = 0; held = [] }
+  -- room for so many numbers from a base on, and no value
+  abbrev pub empty_ring : ℕ → ℕ → Ring T
+  empty_ring base capacity = record { base = base; capacity = capacity; held = [] }
 
   -- a number has room
   abbrev pub HasRoom : Ring T → ℕ → Type 0

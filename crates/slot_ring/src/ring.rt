@@ -1,16 +1,15 @@
 //! The ring.
 
-ghost use Rattle.std.specs.Prelude.{◌≡◌, ◌==◌, if◌then◌else◌, ℕ, ◌+◌, ◌^◌, ◌<◌, ◌≤◌, IfOk, IsSome, None, OnErr, OnOk, length, max, option_copied};
+ghost use Rattle.std.specs.Prelude.{◌≡◌, ◌==◌, if◌then◌else◌, ℕ, ◌+◌, ◌^◌, ◌<◌, ◌≤◌, IfOk, IsSome, None, length, max, option_copied};
 ghost use Rattle.slot_ring.specs.Ring.{HasRoom, IsRing, empty_ring, value_with, with_value, without};
 
-use crate::slots::{empty_slots, place, spread};
+use crate::slots::{empty_slots, place};
 use std::alloc::{AllocError, Global};
 use std::marker::Model;
 
 /// Values by number, from a base on, as far as the capacity goes.
 #[derive(Drop)]
 pub struct SlotRing<T> {
-    alloc: Global,
     slots: Vec<Option<T>>,
     base: u64,
     // How many slots have a value.
@@ -37,17 +36,19 @@ impl<T> Model for SlotRing<T> {
 }
 
 impl<T: Drop> SlotRing<T> {
-    /// A ring with no capacity, from a base on. It takes no memory.
-    pub fn new(alloc: Global, base: u64) -> SlotRing<T>
-        requires { base ≤ 2 ^ 63 }
-        ensures { result ≡ empty_ring base }
+    /// A ring in which so many numbers from a base on have room, and none has a value. It takes all
+    /// the memory that the ring will ever need.
+    pub fn new(alloc: Global, base: u64, capacity: usize) -> Result<SlotRing<T>, AllocError>
+        requires low { base ≤ 2 ^ 63 }
+        requires small { capacity < 2 ^ 63 }
+        ensures { IfOk result (λ ring. ring ≡ empty_ring base capacity) }
     {
-        SlotRing {
-            alloc,
-            slots: Vec::new(alloc),
+        let slots = empty_slots(alloc, capacity)?;
+        Ok(SlotRing {
+            slots,
             base,
             taken: 0,
-        }
+        })
     }
 
     /// The least number that has room.
@@ -162,25 +163,5 @@ impl<T: Drop> SlotRing<T> {
         ensures { self.new ≡ record self.old { base = self.old.base + 1 } }
     {
         self.base += 1;
-    }
-
-    /// Gives room to `span` numbers from the base on: the capacity doubles, but not above `most`.
-    pub fn reserve(&mut self, span: usize, most: usize) -> Result<(), AllocError>
-        requires within { span ≤ most }
-        requires small { most < 2 ^ 63 }
-        ensures room { OnOk result (span ≤ self.new.capacity) }
-        ensures most { self.new.capacity ≤ max self.old.capacity most }
-        ensures rest { self.new ≡ record self.old { capacity = self.new.capacity } }
-        ensures err { OnErr result (self.new ≡ self.old) }
-    {
-        let capacity = self.slots.len();
-        if span <= capacity {
-            return Ok(());
-        }
-        let doubled = most.min(capacity.saturating_mul(2));
-        let mut slots = empty_slots(self.alloc, doubled.max(span))?;
-        spread(&mut self.slots, &mut slots, self.base);
-        self.slots = slots;
-        Ok(())
     }
 }
