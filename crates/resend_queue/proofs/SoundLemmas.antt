@@ -81,7 +81,7 @@ module _ (window next cursor : ℕ) (due : Bool) (dues : ℕ) (r : Ring Slot) wh
       → next + 1 < 2 ^ 63
       → next + 1 ≤ r.base + window
       → after.base ≡ r.base
-      → after.capacity ≤ window
+      → after.capacity ≡ window
       → after.held ≡ with_value r.held next slot
       → IsRetransmissionQueue window (next + 1) cursor due dues after
   sound-put slot after ring sound new numbers span base room held =

@@ -29,8 +29,8 @@ pub record IsKept (next : ℕ) (e : ℕ × Slot) : Type 0 where
   pub dated : 0 < e.1.date
   pub short : length e.1.item.payload ≤ max_payload
 
--- the ring begins at the lowest unacknowledged number, or at the next one, and each message in it can
--- be transmitted
+-- the ring begins at the lowest unacknowledged number, or at the next one, and has room for the
+-- window; each message in it can be transmitted
 pub record IsRetransmissionQueue
     (window next cursor : ℕ) (due : Bool) (dues : ℕ) (ring : Ring Slot)
     : Type 0 where
@@ -44,4 +44,4 @@ pub record IsRetransmissionQueue
   pub kept : All (IsKept next) ring.held
   pub marked : due ≡ true → ring.base < next
   pub marks : dues ≤ max_dues
-  pub room : ring.capacity ≤ window
+  pub room : ring.capacity ≡ window

@@ -69,7 +69,7 @@ new_message seq item id date =
       due = false;
     }
 
--- what a put is answered, where memory doesn't fail
+-- what a put is answered
 abbrev pub put_answer : QueueState → Item → Kept
 put_answer q item =
     if q.next == max_seq + 1 then kepts.Spent item

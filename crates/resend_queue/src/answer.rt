@@ -11,8 +11,6 @@ pub enum Kept {
     Spent(Item),
     /// The window is full. The item comes back.
     Full(Item),
-    /// There was no memory, and nothing changed. The item comes back.
-    NoMemory(Item),
 }
 
 /// What became of the retransmission timer of the lowest unacknowledged message: the answer of

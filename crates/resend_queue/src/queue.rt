@@ -51,7 +51,8 @@ impl Model for Queue {
 }
 
 impl Queue {
-    /// A queue for a window of 1 to 10,000 messages. It counts as reopened.
+    /// A queue for a window of 1 to 10,000 messages. It counts as reopened. It takes the memory for
+    /// all of them, so that no put wants any.
     pub fn new(alloc: Global, window: u64) -> Result<Queue, NoMemory>
         requires low { 1 ≤ window }
         requires high { window ≤ max_window }
@@ -61,7 +62,7 @@ impl Queue {
             alloc,
             window,
             next: 0,
-            slots: SlotRing::new(alloc, 0),
+            slots: SlotRing::new(alloc, 0, window as usize)?,
             cursor: 0,
             due: false,
             dues: 0,
@@ -82,11 +83,11 @@ impl Queue {
         self.next
     }
 
-    /// Puts in an item, under the next number.
+    /// Puts in an item, under the next number. It takes no memory.
     pub fn put(&mut self, item: Item, id: [u8; 16], date: u64) -> Kept
         requires short { length item.payload ≤ max_payload }
         requires dated { 0 < date }
-        ensures answer { (result ≡ put_answer self.old item) ⊎ (result ≡ Kept.NoMemory item) }
+        ensures answer { result ≡ put_answer self.old item }
         ensures state { self.new ≡ after_put self.old item id date result }
     {
         if self.next == MAX_SEQ + 1 {
@@ -96,10 +97,6 @@ impl Queue {
         if span == self.window {
             return Kept::Full(item);
         }
-        let room = self.slots.reserve(span as usize + 1, self.window as usize);
-        let Ok(()) = room else {
-            return Kept::NoMemory(item);
-        };
         let seq = self.next;
         let message = Slot {
             id,

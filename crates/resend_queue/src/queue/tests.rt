@@ -52,7 +52,7 @@ fn a_refused_item_comes_back(rt: HostRuntime) -> Result<(), Fail> {
         alloc,
         window: 1,
         next: MAX_SEQ,
-        slots: SlotRing::new(alloc, MAX_SEQ),
+        slots: SlotRing::new(alloc, MAX_SEQ, 1)?,
         cursor: MAX_SEQ,
         due: false,
         dues: 0,

@@ -1,7 +1,5 @@
-use Rattle.std.proofs.Common.{List, None, ap, ◌∙◌, ◌+◌, ◌-◌, inl, arith, refl}
+use Rattle.std.proofs.Common.{List, None, ap, ◌∙◌, ◌+◌, ◌-◌, arith, refl}
 use Rattle.std.proofs.lemmas.Bool.{eq-eqb, ne_eqb}
-use Rattle.slot_ring.specs.Ring.{Ring, with_value}
-use Rattle.resend_queue.specs.declared.slot.Slot.{Slot}
 use Rattle.resend_queue.specs.Queue.{Pending}
 use Rattle.resend_queue.proofs.MessageLemmas.{messages-put}
 use Rattle.resend_queue.proofs.QueueLemmas.{base-lowest}
@@ -14,34 +12,29 @@ returns-then-span-self-clause-answer c =
     let low = c.base.ensures.value
     ∙ base-lowest inside.window inside.next inside.cursor inside.due inside.dues inside.slots
     c.base.ensures.sound c.self.invariant in
-    inl (rw (
+    rw (
       ← c.self.view_is,
       ← low,
       ne_eqb inside.next 9223372036854775807 c.if-self.false,
       eq-eqb (inside.next - c.base.result) inside.window c.if-span-self.true,
-    ) refl)
+    ) refl
 
-pub invariant_of-self-2 : goal.invariant_of-self-2
-invariant_of-self-2 c =
+pub invariant_of-self : goal.invariant_of-self
+invariant_of-self c =
     let inside = c.self.inside in
-    let rest = c.in-Ok.ensures.rest in
     let state = c.set-none.ensures.state in
     let low = c.base.ensures.value in
-    let span = c.self.invariant.span in
-    let numbers = c.self.invariant.numbers in
+    let sound = c.self.invariant in
+    let span = sound.span in
+    let numbers = sound.numbers in
     let not_full = c.if-span-self.false in
     let not_spent = c.if-self.false in
-    let most = c.in-Ok.ensures.most in
-    let room = c.self.invariant.room in
     sound-put inside.window inside.next inside.cursor inside.due inside.dues inside.slots
     (record { id = c.args.id; date = c.args.date; item = c.args.item; emitted = None })
-    c.set-none.new.self c.base.ensures.sound c.self.invariant
+    c.set-none.new.self c.base.ensures.sound sound
     (record { below = omega arith; dated = c.requires.dated; short = c.requires.short })
     (omega arith) (omega arith)
-    (ap (λ r. r.base) state ∙ ap (λ r. r.base) rest)
-    (rw (ap (λ r. r.capacity) state) (omega arith))
-    (ap (λ r. r.held) state ∙ ap (λ (r : Ring Slot). with_value r.held inside.next
-    (record { id = c.args.id; date = c.args.date; item = c.args.item; emitted = None })) rest)
+    (ap (λ r. r.base) state) (ap (λ r. r.capacity) state ∙ sound.room) (ap (λ r. r.held) state)
 
 pub returns-clause-answer : goal.returns-clause-answer
 returns-clause-answer c =
@@ -49,17 +42,16 @@ returns-clause-answer c =
     let low = c.base.ensures.value
     ∙ base-lowest inside.window inside.next inside.cursor inside.due inside.dues inside.slots
     c.base.ensures.sound c.self.invariant in
-    inl (rw (
+    rw (
       ← c.self.view_is,
       ← low,
       ne_eqb inside.next 9223372036854775807 c.if-self.false,
       ne_eqb (inside.next - c.base.result) inside.window c.if-span-self.false,
-    ) refl)
+    ) refl
 
 pub returns-clause-state : goal.returns-clause-state
 returns-clause-state c =
     let inside = c.self.inside in
-    let rest = c.in-Ok.ensures.rest in
     let state = c.set-none.ensures.state in
     rw (← c.self.view_is)
     (ap (λ (ps : List Pending). record {
@@ -72,6 +64,4 @@ returns-clause-state c =
     c.args.item c.args.id c.args.date
     (record { id = c.args.id; date = c.args.date; item = c.args.item; emitted = None })
     c.set-none.new.self c.self.invariant refl
-    (ap (λ r. r.base) state ∙ ap (λ r. r.base) rest)
-    (ap (λ r. r.held) state ∙ ap (λ (r : Ring Slot). with_value r.held inside.next
-    (record { id = c.args.id; date = c.args.date; item = c.args.item; emitted = None })) rest)))
+    (ap (λ r. r.base) state) (ap (λ r. r.held) state)))
