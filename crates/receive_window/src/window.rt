@@ -36,7 +36,7 @@ impl Model for Window {
 }
 
 impl Window {
-    /// A window of 1 to 10,000 messages.
+    /// A window of 1 to 10,000 messages. It takes the memory for all that may wait in it.
     pub fn new(alloc: Global, window: u64) -> Result<Window, NoMemory>
         requires low { 1 ≤ window }
         requires high { window ≤ max_window }
@@ -45,11 +45,12 @@ impl Window {
         Ok(Window {
             alloc,
             window,
-            early: SlotRing::new(alloc, 0),
+            early: SlotRing::new(alloc, 0, window as usize)?,
         })
     }
 
-    /// Takes a stream message, where it is new and inside the window.
+    /// Takes a stream message, where it is new and inside the window. It takes memory for the list of
+    /// what it releases, and no other.
     #[tactic(auto, using(crate::proofs::ItemLemmas::numbers_differ))]
     pub fn take(&mut self, seq: u64, item: Item) -> Take
         requires { seq < 2 ^ 63 }
@@ -69,10 +70,6 @@ impl Window {
             return Take::Beyond;
         }
         if ahead > 0 {
-            let room = self.early.reserve(ahead as usize + 1, self.window as usize);
-            let Ok(()) = room else {
-                return Take::NoMemory(item);
-            };
             let _none = self.early.set(seq, item);
             return Take::Released(Items::none(self.alloc));
         }

@@ -4,7 +4,7 @@ use Rattle.std.proofs.lemmas.List.Elements.{All-append, All-cons, All-filter}
 use Rattle.std.proofs.lemmas.List.Kept.{AllPairs-filter}
 use Rattle.std.specs.Option.{IsSome}
 use Rattle.chan_values.specs.declared.item.Item.{Item}
-use Rattle.slot_ring.specs.Ring.{Ring, with_value}
+use Rattle.slot_ring.specs.Ring.{Ring}
 use Rattle.receive_window.specs.Inside.{from_number}
 use Rattle.receive_window.specs.Window.{WindowState, item_with, items_in_order}
 use Rattle.receive_window.proofs.ItemLemmas.{above_next, absent, copied-some, eqb-turned, item_with-before, item_with-from, next_small, numbers-found, numbers_differ}
@@ -33,16 +33,14 @@ returns-then-seq-expected-clause-beyond c =
     subst (λ (v : WindowState). c.args.seq < v.expected + v.window) c.self.view_is near in
     ((λ is. absurd (late-not_beyond is)), (λ far. absurd (omega (arith, below, far))))
 
-pub invariant_of-self-then-ahead-gt0 : goal.invariant_of-self-then-ahead-gt0
-invariant_of-self-then-ahead-gt0 c =
+pub invariant_of-self : goal.invariant_of-self
+invariant_of-self c =
     let inside = c.self.inside in
     let early = inside.early in
     let sound = c.self.invariant in
-    let reserved = c.in-Ok.ensures.rest in
     let state = c.set-none.ensures.state in
-    let base = ap (λ (r : Ring Item). r.base) state ∙ ap (λ (r : Ring Item). r.base) reserved in
-    let held = ap (λ (r : Ring Item). r.held) state
-    ∙ ap (λ (r : Ring Item). with_value r.held c.args.seq c.args.item) reserved in
+    let base = ap (λ (r : Ring Item). r.base) state in
+    let held = ap (λ (r : Ring Item). r.held) state in
     let ahead = c.if-ahead-gt0.true in
     let differ : early.base ≢ c.args.seq = λ same. (let at = c.base-expected.ensures.value in
     omega arith) in
@@ -52,7 +50,7 @@ invariant_of-self-then-ahead-gt0 c =
       numbers = rw base sound.numbers;
       missing = rw base
           (c.set-none.ensures.found early.base
-          ∙ rw (ne_eqb early.base c.args.seq differ, reserved) sound.missing);
+          ∙ rw (ne_eqb early.base c.args.seq differ) sound.missing);
       small = rw held
           (All-append (λ (e : ℕ × Item). e.0 < 2 ^ 63)
           (filter (λ (e : ℕ × Item). ltb e.0 c.args.seq) early.held)
@@ -63,25 +61,21 @@ invariant_of-self-then-ahead-gt0 c =
           (filter (λ (e : ℕ × Item). ltb c.args.seq e.0) early.held) c.requires
           (All-filter (λ (e : ℕ × Item). ltb c.args.seq e.0) (λ (e : ℕ × Item). e.0 < 2 ^ 63)
           early.held sound.small)));
-      room = rw (ap (λ (r : Ring Item). r.capacity) state)
-          (let most = c.in-Ok.ensures.most in let room = sound.room in omega arith);
+      room = ap (λ (r : Ring Item). r.capacity) state ∙ sound.room;
     }
 
 pub returns-then-ahead-gt0-clause-released : goal.returns-then-ahead-gt0-clause-released
 returns-then-ahead-gt0-clause-released c =
     let inside = c.self.inside in
     let early = inside.early in
-    let reserved = c.in-Ok.ensures.rest in
-    let base = ap (λ (r : Ring Item). r.base) c.set-none.ensures.state
-    ∙ ap (λ (r : Ring Item). r.base) reserved in
+    let base = ap (λ (r : Ring Item). r.base) c.set-none.ensures.state in
     let above = above_next early c.base-expected.ensures.sound c.self.invariant.missing in
     rw (← c.self.view_is, c.none.ensures, base)
     (Releases-early inside.window early.base c.args.seq c.args.item early.held
     c.set-none.new.self.held
     (let ahead = c.if-ahead-gt0.true in let at = c.base-expected.ensures.value in omega arith)
     (λ k some. numbers-found (λ n. early.base < n) early.held k above some)
-    (λ k. c.set-none.ensures.found k
-    ∙ rw (reserved, eqb-turned c.args.seq k) refl)
+    (λ k. c.set-none.ensures.found k ∙ rw (eqb-turned c.args.seq k) refl)
     (numbers_differ c.set-none.new.self.held c.set-none.ensures.sound.ascending))
 
 pub release-requires-clause-small : goal.release-requires-clause-small
@@ -120,7 +114,7 @@ returns-clause-released c =
     c.release.ensures.items
     ∙ ap (λ (l : List Item). l ++ items_in_order early.held (early.base + 1) next)
     (c.push_reserved.ensures.items
-    ∙ ap (λ (l : List Item). l ++ c.args.item ∷ []) c.in-Ok-with_capacity.ensures.items)
+    ∙ ap (λ (l : List Item). l ++ c.args.item ∷ []) c.in-Ok.ensures.items)
     ∙ ap (λ (n : ℕ). c.args.item ∷ items_in_order early.held (n + 1) next) (sym here) in
     rw (← c.self.view_is, c.new.ensures, c.release.ensures.rest)
     (Releases-next_at inside.window early.base c.args.seq next c.args.item
