@@ -15,7 +15,7 @@ use Rattle.channel_core.specs.declared.message.Incoming.{Incoming}
 use Rattle.channel_core.specs.Call.{Entry}
 use Rattle.channel_core.specs.History.{acked_numbers, emissions, next_in_order, put_items, released_items, taken_items, is_closed, lowest_unacked}
 use Rattle.channel_core.specs.Laws.{AcknowledgedHasArrived, EachNumberIsTakenOnce, HasArrived, NothingIsBeyond, ReleasedIsInOrder, ReleasedIsPrefix, WindowBoundsMessages}
-use Rattle.channel_core.specs.Legal.{IsAnswered, answer_to_heard, answer_to_incoming}
+use Rattle.channel_core.specs.Legal.{IsAnswered, IsNoMemory, answer_to, answer_to_heard, answer_to_incoming}
 use Rattle.channel_core.specs.Numbers.{has_number, numbers_of}
 use Rattle.channel_core.specs.World.{Event, IsHonest, IsLegalWorld, WasEmitted, history_of}
 use Rattle.channel_core.proofs.AgreementLemmas.{Agree, IsHeardOf, IsPutAs, IsSentFrom, agree}
@@ -25,7 +25,7 @@ use Rattle.channel_core.proofs.NumberLemmas.{least_absent-is, least_absent-le}
 use Rattle.channel_core.proofs.SoundLemmas.{IsConsistent, sound, within_window}
 use Rattle.channel_core.proofs.WorldLemmas.{IsHonest-pushed, IsLegalWorld-pushed, other-other}
 use Rattle.channel_core.specs.declared.message.Outgoing.{Outgoing}
-use Rattle.channel_core.proofs.LegalLemmas.{ack_cases, stream_cases}
+use Rattle.channel_core.proofs.LegalLemmas.{ack_cases, answered_cases, stream_cases}
 
 -- what the receiver released is the front of what the sender put in
 pub released_items-front : (w : ℕ) (s r : List Entry)
@@ -191,29 +191,32 @@ pub answer_not_beyond : (w : ℕ) (s r : List Entry) (call : EndCall) (answer : 
     → IsHeardOf (emissions s) call answer
     → IsAnswered w r call answer
     → answer ≢ EndAnswer.Heard Heard.Beyond
-answer_not_beyond w s r (EndCall.Put item id now) answer agree emitted answered beyond =
-    ⊎_elim (λ is. cc) (λ is. cc) answered
-answer_not_beyond w s r (EndCall.Heard now incoming) answer agree emitted answered beyond =
-    ⊎_elim
-    (λ (is : answer ≡ EndAnswer.Heard (answer_to_heard w r incoming)).
-    let same : EndAnswer.Heard (answer_to_heard w r incoming) ≡ EndAnswer.Heard Heard.Beyond
-    = sym is ∙ beyond in
-    let heard : answer_to_heard w r incoming ≡ Heard.Beyond = cc in
-    not_beyond w now s r incoming agree (emitted (λ none. cc)) heard)
-    (λ is. cc)
-    answered
-answer_not_beyond w s r (EndCall.Tick now) answer agree emitted answered beyond =
-    ⊎_elim (λ is. cc) (λ never. never) answered
-answer_not_beyond w s r (EndCall.Pull now) answer agree emitted answered beyond =
-    ⊎_elim (λ is. cc) (λ is. cc) answered
-answer_not_beyond w s r EndCall.Lost answer agree emitted answered beyond =
-    ⊎_elim (λ is. cc) (λ never. never) answered
-answer_not_beyond w s r (EndCall.Opened now) answer agree emitted answered beyond =
-    ⊎_elim (λ is. cc) (λ never. never) answered
-answer_not_beyond w s r EndCall.Close answer agree emitted answered beyond =
-    ⊎_elim (λ is. cc) (λ never. never) answered
-answer_not_beyond w s r EndCall.Look answer agree emitted answered beyond =
-    ⊎_elim (λ is. cc) (λ never. never) answered
+answer_not_beyond w s r call answer agree emitted answered beyond =
+    let none : IsNoMemory call answer → ⊥
+    = λ wants. no call (subst (IsNoMemory call) beyond wants) in
+    let was : WasEmitted (emissions s) call = emitted none in
+    answered_cases w r call answer answered (λ is. at call was (sym beyond ∙ is)) none
+  where
+    -- no call tells want of memory so
+    no : (call : EndCall) → IsNoMemory call (EndAnswer.Heard Heard.Beyond) → ⊥
+    no (EndCall.Heard now incoming) is = cc
+    no (EndCall.Pull now) is = cc
+    no call never = never
+
+    at : (call : EndCall)
+        → WasEmitted (emissions s) call
+        → EndAnswer.Heard Heard.Beyond ≡ answer_to w r call
+        → ⊥
+    at (EndCall.Heard now incoming) was is =
+        let heard : answer_to_heard w r incoming ≡ Heard.Beyond = cc in
+        not_beyond w now s r incoming agree was heard
+    at (EndCall.Put item id now) was is = cc
+    at (EndCall.Tick now) was is = cc
+    at (EndCall.Pull now) was is = cc
+    at EndCall.Lost was is = cc
+    at (EndCall.Opened now) was is = cc
+    at EndCall.Close was is = cc
+    at EndCall.Look was is = cc
 
 -- the last event is not beyond the window
 pub event_not_beyond : (w : ℕ) (world : List Event) (x : Event)

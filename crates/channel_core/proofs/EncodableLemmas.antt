@@ -17,7 +17,7 @@ use Rattle.channel_core.specs.History.{PutMessage, emissions, is_closed, lowest_
 use Rattle.channel_core.specs.Laws.{EmissionsCanBeEncoded}
 use Rattle.channel_core.specs.Legal.{IsAnswered, IsLegal, answer_to_put}
 use Rattle.channel_core.proofs.HistoryLemmas.{by_pushes, emissions-push, owed_acks-push, put_messages-push}
-use Rattle.channel_core.proofs.LegalLemmas.{All-pushed, IsLegal-pushed, by_cases}
+use Rattle.channel_core.proofs.LegalLemmas.{All-pushed, IsLegal-pushed, answered_cases, by_cases}
 use Rattle.chan_values.specs.Limits.{max_seq}
 
 -- a put that got a number was below the limit
@@ -140,10 +140,11 @@ step w h call answer sound answered =
         → IsAnswered w h (EndCall.Put item id now)
         (EndAnswer.Put (Put.Seq (length (put_messages h))))
         → length (put_messages h) ≢ max_seq + 1
-    seq_room item id now =
-        ⊎_elim
+    seq_room item id now answered =
+        answered_cases w h (EndCall.Put item id now)
+        (EndAnswer.Put (Put.Seq (length (put_messages h)))) answered
         (λ is. put_room w h item (length (put_messages h)) is)
-        (λ never. cc)
+        (λ never. absurd never)
 
 -- nothing was called
 sound_start : (w : ℕ) → Sound (put_messages []) (owed_acks w []) (emissions [])

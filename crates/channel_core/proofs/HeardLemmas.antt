@@ -1,5 +1,5 @@
 -- Stream messages that are heard: from what an end keeps to the entry that follows.
-use Rattle.std.proofs.Common.{◌≡◌, ℕ, ◌+◌, ◌<◌, ◌≤◌, Bool, true, false, cond, ◌||◌, Option, None, List, [], ◌∷◌, inl, inr, ⊎_elim, refl, sym, ap, ◌∙◌, arith, eqb, ltb}
+use Rattle.std.proofs.Common.{◌≡◌, ℕ, ◌+◌, ◌<◌, ◌≤◌, Bool, true, false, cond, ◌||◌, Option, None, List, [], ◌∷◌, inl, inr, ⊎_elim, refl, sym, ap, subst, ◌∙◌, arith, eqb, ltb}
 use Rattle.std.proofs.lemmas.Bool.{cases_Bool}
 use Rattle.chan_values.specs.declared.item.Item.{Item}
 use Rattle.channel_core.specs.declared.call.EndAnswer.{EndAnswer}
@@ -8,7 +8,7 @@ use Rattle.channel_core.specs.declared.answer.Heard.{Heard}
 use Rattle.channel_core.specs.declared.message.Incoming.{Incoming}
 use Rattle.channel_core.specs.Call.{Entry}
 use Rattle.channel_core.specs.History.{is_closed, next_in_order, owed_with, taken_items}
-use Rattle.channel_core.specs.Legal.{IsLegal, answer_to_heard, answer_to_incoming}
+use Rattle.channel_core.specs.Legal.{IsLegal, NeedsMemory, answer_to, answer_to_heard, answer_to_incoming}
 use Rattle.channel_core.specs.Numbers.{has_number, numbers_of}
 use Rattle.channel_core.specs.Stands.{EndState, Stands}
 use Rattle.channel_core.proofs.EarlyLemmas.{early_known}
@@ -112,14 +112,29 @@ beyond_goes w h now n id item old new legal s unclosed untaken far is =
     ∙ beyond_is w h n item new_number beyond))))
     (search still) (λ l. refl) (λ b. refl) (λ b. refl) refl
 
-pub heard_none_goes : (w : ℕ) (h : List Entry) (now : ℕ) (incoming : Incoming) (old new : EndState)
+-- a message for which there is no memory is one that would be taken
+pub no_memory_goes : (w : ℕ) (h : List Entry) (now n : ℕ) (id : List ℕ) (item : Item)
+    (old new : EndState)
     → IsLegal w h
     → Stands w old h
+    → old.closed ≡ false
+    → is_taken old.received n ≡ false
+    → n < old.received.expected + old.received.window
     → new ≡ old
-    → Goes w h new (EndCall.Heard now incoming) (EndAnswer.Heard (Heard.NoMemory incoming))
-heard_none_goes w h now incoming old new legal s is =
-    nothing_goes w h old new (EndCall.Heard now incoming)
-    (EndAnswer.Heard (Heard.NoMemory incoming)) legal s is (inr refl)
+    → Goes w h new (stream_call now n id item)
+    (EndAnswer.Heard (Heard.NoMemory (Incoming.Stream n id item)))
+no_memory_goes w h now n id item old new legal s unclosed untaken near is =
+    let call = stream_call now n id item in
+    let new_number : (ltb n (next_in_order h) || has_number (numbers_of (taken_items h)) n) ≡ false
+    = sym (is_taken-is w h old n legal s) ∙ untaken in
+    let within : n < next_in_order h + w = let a = s.expected in let b = s.window in omega arith in
+    let due : answer_to w h call
+    ≡ EndAnswer.Heard (Heard.Released (items_released_by (taken_items h) n item))
+    = ap (λ (a : Heard). EndAnswer.Heard a)
+    (open_heard w h (Incoming.Stream n id item) (sym s.closed ∙ unclosed)
+    ∙ released_is w h n item new_number within) in
+    nothing_goes w h old new call (EndAnswer.Heard (Heard.NoMemory (Incoming.Stream n id item)))
+    legal s is (inr (refl, subst NeedsMemory (sym due) tt))
     (search still) (λ l. refl) (λ b. refl) (λ b. refl) refl
 
 pub after_close_goes : (w : ℕ) (h : List Entry) (now : ℕ) (incoming : Incoming) (old new : EndState)

@@ -13,7 +13,7 @@ use Rattle.channel_core.specs.declared.answer.Pull.{Pull}
 use Rattle.channel_core.specs.declared.answer.Put.{Put}
 use Rattle.channel_core.specs.Call.{Entry, with_earlier}
 use Rattle.channel_core.specs.History.{PutMessage, acked_numbers, emitted_numbers, is_closed, is_paused, is_up, item_taken, items_released, lowest_unacked, message_emitted, message_put, next_in_order, number_acked, owed_acks, owed_after, put_messages, taken_items}
-use Rattle.channel_core.specs.Legal.{IsAnswered, IsLegal, IsNoMemory, answer_to, answer_to_ack, answer_to_heard, answer_to_incoming, answer_to_pull, answer_to_put, answer_to_stream, answer_to_tick, emit_message, emit_next, emit_number, items_released_by}
+use Rattle.channel_core.specs.Legal.{IsAnswered, IsLegal, IsNoMemory, NeedsMemory, answer_to, answer_to_ack, answer_to_heard, answer_to_incoming, answer_to_pull, answer_to_put, answer_to_stream, answer_to_tick, emit_message, emit_next, emit_number, items_released_by}
 use Rattle.channel_core.specs.Numbers.{has_number, least_below, numbers_of}
 use Rattle.channel_core.specs.Resending.{is_eligible}
 use Rattle.channel_core.proofs.HistoryLemmas.{with_earlier-push}
@@ -50,16 +50,26 @@ unfolding IsLegal
 IsLegal-push w h e legal answered =
     rw with_earlier-push (All-push (Fits w) (with_earlier h) (h, e) legal answered)
 
+-- a call got its answer, or wanted for memory
+pub answered_cases : {A : Type 0} (w : ℕ) (h : List Entry) (call : EndCall) (answer : EndAnswer)
+    → IsAnswered w h call answer
+    → (answer ≡ answer_to w h call → A)
+    → (IsNoMemory call answer → A)
+    → A
+answered_cases w h call answer answered due none =
+    ⊎_elim due
+    (λ (wants : IsNoMemory call answer × NeedsMemory (answer_to w h call)). none wants.0)
+    answered
+
 -- an entry of a legal history that did not want for memory got the one answer that there is
 pub answer_to-known : (w : ℕ) (h : List Entry) (e : Entry)
     → IsLegal w (h ++ e ∷ [])
     → (IsNoMemory e.call e.answer → ⊥)
     → e.answer ≡ answer_to w h e.call
 answer_to-known w h e legal memory =
-    ⊎_elim
+    answered_cases w h e.call e.answer (IsLegal-pushed w h e legal).1
     (λ (is : e.answer ≡ answer_to w h e.call). is)
     (λ (none : IsNoMemory e.call e.answer). absurd (memory none))
-    (IsLegal-pushed w h e legal).1
 
 -- no entries are a legal history
 pub IsLegal-nil : (w : ℕ) → IsLegal w []
@@ -214,18 +224,16 @@ pub by_cases : (w : ℕ) (h : List Entry) (P : EndCall → EndAnswer → Type 0)
     → IsAnswered w h call answer
     → P call answer
 by_cases w h P cases (EndCall.Put item id now) answer answered =
-    ⊎_elim
+    answered_cases w h (EndCall.Put item id now) answer answered
     (λ (is : answer ≡ EndAnswer.Put (answer_to_put w h item)). rw is
     (put_cases w h item (λ (put : Put). P (EndCall.Put item id now) (EndAnswer.Put put))
     (cases.quiet _ _ (search rules))
     (cases.quiet _ _ (search rules))
     (cases.quiet _ _ (search rules))
     (cases.seq item id now)))
-    (λ (is : answer ≡ EndAnswer.Put (Put.NoMemory item)). rw is
-    (cases.quiet _ _ (search rules)))
-    answered
+    (λ never. absurd never)
 by_cases w h P cases (EndCall.Heard now incoming) answer answered =
-    ⊎_elim
+    answered_cases w h (EndCall.Heard now incoming) answer answered
     (λ (is : answer ≡ EndAnswer.Heard (answer_to_heard w h incoming)). rw is
     (cond_both (is_closed h) Heard.AfterClose (answer_to_incoming w h incoming)
     (λ (heard : Heard). P (EndCall.Heard now incoming) (EndAnswer.Heard heard))
@@ -233,7 +241,6 @@ by_cases w h P cases (EndCall.Heard now incoming) answer answered =
     (λ _. heard_cases incoming)))
     (λ (is : answer ≡ EndAnswer.Heard (Heard.NoMemory incoming)). rw is
     (cases.quiet _ _ (search rules)))
-    answered
   where
     heard_cases : (incoming : Incoming)
         → P (EndCall.Heard now incoming) (EndAnswer.Heard (answer_to_incoming w h incoming))
@@ -253,25 +260,27 @@ by_cases w h P cases (EndCall.Heard now incoming) answer answered =
     heard_cases Incoming.Start = cases.quiet _ _ (search rules)
     heard_cases (Incoming.Closing output) = cases.quiet _ _ (search rules)
 by_cases w h P cases (EndCall.Pull now) answer answered =
-    ⊎_elim
+    answered_cases w h (EndCall.Pull now) answer answered
     (λ (is : answer ≡ EndAnswer.Pull (answer_to_pull w h now)). rw is
     (pull_cases w h now (λ (pull : Pull). P (EndCall.Pull now) (EndAnswer.Pull pull))
     (cases.quiet _ _ (search rules))
     (cases.emit_ack now)
     (cases.emit_stream now)))
     (λ (is : answer ≡ EndAnswer.Pull Pull.NoMemory). rw is (cases.quiet _ _ (search rules)))
-    answered
 by_cases w h P cases (EndCall.Tick now) answer answered =
-    ⊎_elim
+    answered_cases w h (EndCall.Tick now) answer answered
     (λ (is : answer ≡ EndAnswer.Tick (answer_to_tick h now)). rw is
     (cases.quiet _ _ (search rules)))
     (λ never. absurd never)
-    answered
 by_cases w h P cases EndCall.Lost answer answered =
-    ⊎_elim (λ is. rw is (cases.quiet _ _ (search rules))) (λ never. absurd never) answered
+    answered_cases w h EndCall.Lost answer answered
+    (λ is. rw is (cases.quiet _ _ (search rules))) (λ never. absurd never)
 by_cases w h P cases (EndCall.Opened now) answer answered =
-    ⊎_elim (λ is. rw is (cases.quiet _ _ (search rules))) (λ never. absurd never) answered
+    answered_cases w h (EndCall.Opened now) answer answered
+    (λ is. rw is (cases.quiet _ _ (search rules))) (λ never. absurd never)
 by_cases w h P cases EndCall.Close answer answered =
-    ⊎_elim (λ is. rw is (cases.quiet _ _ (search rules))) (λ never. absurd never) answered
+    answered_cases w h EndCall.Close answer answered
+    (λ is. rw is (cases.quiet _ _ (search rules))) (λ never. absurd never)
 by_cases w h P cases EndCall.Look answer answered =
-    ⊎_elim (λ is. rw is (cases.quiet _ _ (search rules))) (λ never. absurd never) answered
+    answered_cases w h EndCall.Look answer answered
+    (λ is. rw is (cases.quiet _ _ (search rules))) (λ never. absurd never)

@@ -24,7 +24,7 @@ use Rattle.channel_core.proofs.AgreementLemmas.{Agree}
 use Rattle.channel_core.proofs.DeliveryLemmas.{not_beyond}
 use Rattle.channel_core.proofs.HistoryLemmas.{emissions-push, is_closed-push, is_paused-push, is_up-push, put_messages-push, sent_since_opened-push, taken_items-push}
 use Rattle.channel_core.proofs.ItemLemmas.{numbers_of-append}
-use Rattle.channel_core.proofs.LegalLemmas.{ack_cases, stream_cases}
+use Rattle.channel_core.proofs.LegalLemmas.{ack_cases, answered_cases, stream_cases}
 use Rattle.channel_core.proofs.NumberLemmas.{has_number-last, has_number-more, has_number-pushed, least_below-none, least_below-some}
 use Rattle.channel_core.proofs.WorldLemmas.{by_side, cases_side, history_of-here, history_of-there, other-other}
 
@@ -132,11 +132,10 @@ pub hears : (w now : ℕ) (s r : List Entry) (out : Outgoing) (answer : EndAnswe
 hears w now s r out answer agree emitted answered unclosed memory =
     let call = EndCall.Heard now (incoming_of out) in
     let inside = not_beyond w now s r (incoming_of out) agree emitted in
-    ⊎_elim
+    answered_cases w r call answer answered
     (λ (is : answer ≡ EndAnswer.Heard (answer_to_heard w r (incoming_of out))).
     rw (is, unclosed) (hears_answer w now r out (rw unclosed at inside)))
     (λ (none : answer ≡ EndAnswer.Heard (Heard.NoMemory (incoming_of out))). absurd (memory none))
-    answered
 
 -- what an emission that is heard at once leaves at both ends
 pub record IsPassed (s r s' r' : List Entry) : Type 0 where
@@ -296,7 +295,8 @@ idle_taken w now s r agree ready unclosed answered n below =
     least (inl is) =
         let idle : answer_to_pull w s now ≡ Pull.Idle = cc in
         idle_answer w now s unclosed ready.up ready.running idle
-    least (inr none) = cc
+    least (inr none) =
+        let never : EndAnswer.Pull Pull.Idle ≡ EndAnswer.Pull Pull.NoMemory = none.0 in cc
 
 -- both ends are ready to send
 abbrev pub BothReady : List Event → Type 0

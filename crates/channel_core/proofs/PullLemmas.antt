@@ -210,7 +210,7 @@ pull_out_goes w h now out old new legal s up owed paused answer is =
     (λ (none : out ≡ Out.NoMemory). rw none
     (nothing_goes w h old new (EndCall.Pull now) (EndAnswer.Pull Pull.NoMemory) legal s
     (is ∙ ap (λ (o : Out). record old { queue = after_out old.queue now o }) none)
-    (inr refl) (search still) (λ l. refl) (λ b. refl) (λ b. refl) refl))
+    (inr (refl, tt)) (search still) (λ l. refl) (λ b. refl) (λ b. refl) refl))
     answer
   where
     by : (o : Out)
@@ -222,5 +222,5 @@ pull_out_goes w h now out old new legal s up owed paused answer is =
         (EndAnswer.Pull Pull.Idle) legal s is (inl (ap (λ (p : Pull). EndAnswer.Pull p) given))
         (search still) (λ l. refl) (λ b. refl) (λ b. refl) refl
     by Out.NoMemory is given = nothing_goes w h old new (EndCall.Pull now)
-        (EndAnswer.Pull Pull.NoMemory) legal s is (inr refl) (search still) (λ l. refl)
+        (EndAnswer.Pull Pull.NoMemory) legal s is (inr (refl, tt)) (search still) (λ l. refl)
         (λ b. refl) (λ b. refl) refl

@@ -1,5 +1,5 @@
 -- Puts: from what an end keeps to the entry that follows.
-use Rattle.std.proofs.Common.{◌≡◌, ℕ, ◌+◌, ◌-◌, max, Bool, true, false, cond, List, [], ◌∷◌, ◌++◌, ◌⊎◌, inl, inr, ⊎_elim, refl, sym, ap, ◌∙◌, arith, length, eqb}
+use Rattle.std.proofs.Common.{◌≡◌, ℕ, ◌+◌, ◌-◌, max, Bool, true, false, cond, List, [], ◌∷◌, ◌++◌, inl, refl, sym, ap, ◌∙◌, arith, length, eqb}
 use Rattle.std.proofs.lemmas.Bool.{false_from_ne_true}
 use Rattle.std.proofs.lemmas.List.{length_push}
 use Rattle.chan_values.specs.declared.item.Item.{Item}
@@ -25,7 +25,6 @@ abbrev pub put_of : Kept → Put
 put_of (Kept.Seq n) = Put.Seq n
 put_of (Kept.Spent item) = Put.Spent item
 put_of (Kept.Full item) = Put.Full item
-put_of (Kept.NoMemory item) = Put.NoMemory item
 
 -- the queue's answer is the one that the rules give
 answer_to_put-kept : (w : ℕ) (h : List Entry) (item : Item) (dues : ℕ)
@@ -124,23 +123,15 @@ pub put_goes : (w : ℕ) (h : List Entry) (item : Item) (id : List ℕ) (now : �
     → IsLegal w h
     → Stands w old h
     → old.closed ≡ false
-    → (kept ≡ put_answer old.queue item) ⊎ (kept ≡ Kept.NoMemory item)
+    → kept ≡ put_answer old.queue item
     → new ≡ record old { queue = after_put old.queue item id (max now 1) kept }
     → Goes w h new (EndCall.Put item id now) (EndAnswer.Put (put_of kept))
-put_goes w h item id now kept old new legal s unclosed answer is =
-    ⊎_elim
-    (λ (given : kept ≡ put_answer old.queue item).
+put_goes w h item id now kept old new legal s unclosed given is =
     let same : kept ≡ put_answer (queue_of w (sending h) (due_count h (lowest_unacked h))) item
     = given ∙ ap (λ (q : QueueState). put_answer q item) (s.queue ∙ queue_after-is w h) in
     by kept is
     (sym (answer_to_put-kept w h item (due_count h (lowest_unacked h)) (sym s.closed ∙ unclosed)
-    (orderly w h legal) ∙ ap put_of (sym same))) same)
-    (λ (none : kept ≡ Kept.NoMemory item). rw none
-    (nothing_goes w h old new (EndCall.Put item id now) (EndAnswer.Put (Put.NoMemory item)) legal s
-    (is ∙ ap
-    (λ (k : Kept). record old { queue = after_put old.queue item id (max now 1) k }) none)
-    (inr refl) (search still) (λ l. refl) (λ b. refl) (λ b. refl) refl))
-    answer
+    (orderly w h legal) ∙ ap put_of (sym same))) same
   where
     -- a number that is answered is the next one
     seq_is : (n : ℕ)
@@ -188,6 +179,3 @@ put_goes w h item id now kept old new legal s unclosed answer is =
         (search still) (λ l. refl) (λ b. refl) refl
     by (Kept.Full back) is given same = refused (Put.Full back) is given
         (search still) (λ l. refl) (λ b. refl) refl
-    by (Kept.NoMemory back) is given same =
-        refused (Put.NoMemory back) is given (search still) (λ l. refl)
-        (λ b. refl) refl

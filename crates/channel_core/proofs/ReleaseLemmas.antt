@@ -180,3 +180,9 @@ released-beyond items is = cc
 
 pub beyond-late : Take.Beyond ≡ Take.Late → ⊥
 beyond-late is = cc
+
+pub no_memory-late : (item : Item) → Take.NoMemory item ≡ Take.Late → ⊥
+no_memory-late item is = cc
+
+pub no_memory-beyond : (item : Item) → Take.NoMemory item ≡ Take.Beyond → ⊥
+no_memory-beyond item is = cc

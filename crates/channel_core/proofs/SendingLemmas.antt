@@ -12,11 +12,11 @@ use Rattle.channel_core.specs.declared.answer.Pull.TheVariants as Pull
 use Rattle.channel_core.specs.declared.answer.Tick.{Tick}
 use Rattle.channel_core.specs.Call.{Entry}
 use Rattle.channel_core.specs.History.{acked_numbers, emissions, emitted_numbers, is_closed, is_up, lowest_unacked, message_emitted, message_put, number_acked, put_messages, stream_number}
-use Rattle.channel_core.specs.Legal.{IsAnswered, IsLegal, answer_to_tick, is_expired}
+use Rattle.channel_core.specs.Legal.{IsAnswered, IsLegal, IsNoMemory, answer_to, answer_to_tick, is_expired}
 use Rattle.channel_core.specs.Numbers.{has_number, least_absent}
 use Rattle.channel_core.specs.Resending.{due_count, is_due, marked_after, marked_due, number_transmitted, sent_after, sent_since_opened, transmissions}
 use Rattle.channel_core.proofs.HistoryLemmas.{acked_numbers-push, by_pushes, emissions-push, marked_due-push, put_messages-push, sent_since_opened-push, transmissions-push}
-use Rattle.channel_core.proofs.LegalLemmas.{IsLegal-pushed, by_cases}
+use Rattle.channel_core.proofs.LegalLemmas.{IsLegal-pushed, answered_cases, by_cases}
 use Rattle.channel_core.proofs.NumberLemmas.{has_number-append, has_number-kept, has_number-more, has_number-pushed, has_number-without, least_absent-grows, least_absent-le}
 use Rattle.channel_core.proofs.PendingLemmas.{Sending}
 use Rattle.resend_queue.specs.Queue.{max_dues}
@@ -204,18 +204,25 @@ due_answer h now n =
 pub due_answered : (w : ℕ) (h : List Entry) (call : EndCall) (n : ℕ)
     → IsAnswered w h call (EndAnswer.Tick (Tick.Due n))
     → IsExpired h n
-due_answered w h (EndCall.Tick now) n answered =
-    ⊎_elim (λ
-    (is : EndAnswer.Tick (Tick.Due n) ≡ EndAnswer.Tick
-    (answer_to_tick h now)). due_answer h now n cc) (λ never. absurd never) answered
-due_answered w h (EndCall.Put item id now) n answered = ⊎_elim (λ is. cc) (λ is. cc) answered
-due_answered w h (EndCall.Heard now incoming) n answered = ⊎_elim (λ is. cc) (λ is. cc) answered
-due_answered w h (EndCall.Pull now) n answered = ⊎_elim (λ is. cc) (λ is. cc) answered
-due_answered w h EndCall.Lost n answered = ⊎_elim (λ is. cc) (λ never. absurd never) answered
-due_answered w h (EndCall.Opened now) n answered =
-    ⊎_elim (λ is. cc) (λ never. absurd never) answered
-due_answered w h EndCall.Close n answered = ⊎_elim (λ is. cc) (λ never. absurd never) answered
-due_answered w h EndCall.Look n answered = ⊎_elim (λ is. cc) (λ never. absurd never) answered
+due_answered w h call n answered =
+    answered_cases w h call (EndAnswer.Tick (Tick.Due n)) answered (at call)
+    (λ none. absurd (no call none))
+  where
+    -- no call tells want of memory so
+    no : (call : EndCall) → IsNoMemory call (EndAnswer.Tick (Tick.Due n)) → ⊥
+    no (EndCall.Heard now incoming) is = cc
+    no (EndCall.Pull now) is = cc
+    no call never = never
+
+    at : (call : EndCall) → EndAnswer.Tick (Tick.Due n) ≡ answer_to w h call → IsExpired h n
+    at (EndCall.Tick now) is = due_answer h now n cc
+    at (EndCall.Put item id now) is = cc
+    at (EndCall.Heard now incoming) is = cc
+    at (EndCall.Pull now) is = cc
+    at EndCall.Lost is = cc
+    at (EndCall.Opened now) is = cc
+    at EndCall.Close is = cc
+    at EndCall.Look is = cc
 
 due_orderly : (w : ℕ) (h : List Entry) (call : EndCall) (answer : EndAnswer)
     → IsAnswered w h call answer

@@ -20,7 +20,7 @@ use Rattle.channel_core.specs.Numbers.{has_number}
 use Rattle.channel_core.specs.Resending.{marked_after, marked_due, sent_after, sent_since_opened}
 use Rattle.channel_core.specs.Since.{IsClosing, IsDueOf, IsEmissionOf, IsLoss, IsOpening, IsPause, IsSince, IsStart}
 use Rattle.channel_core.proofs.HistoryLemmas.{by_pushes, is_paused-push, is_up-push, marked_due-push, sent_since_opened-push}
-use Rattle.channel_core.proofs.LegalLemmas.{All-pushed, IsLegal-pushed}
+use Rattle.channel_core.proofs.LegalLemmas.{All-pushed, IsLegal-pushed, answered_cases}
 use Rattle.channel_core.proofs.NumberLemmas.{has_number-kept, has_number-last, has_number-other, has_number-without}
 
 -- a list is empty or has a last element
@@ -287,7 +287,8 @@ closed_is_closed_once h =
 opened_is_quiet : (w : ℕ) (h : List Entry) (now : ℕ) (answer : EndAnswer)
     → IsAnswered w h (EndCall.Opened now) answer
     → answer ≡ EndAnswer.Done
-opened_is_quiet w h now answer answered = ⊎_elim (λ is. is) (λ never. absurd never) answered
+opened_is_quiet w h now answer answered =
+    answered_cases w h (EndCall.Opened now) answer answered (λ is. is) (λ never. absurd never)
 
 -- an answer that gives out the message with this number
 abbrev Emits : ℕ → EndAnswer → Type 0

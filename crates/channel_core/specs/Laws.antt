@@ -101,7 +101,8 @@ EmissionsCanBeEncoded =
     → All CanBeEncoded (emissions h)
 
 -- a world of no events is legal and honest, and it stays so with each call that gets its answer and
--- hears nothing of the other end but what was emitted there, and with each that wants for memory
+-- hears nothing of the other end but what was emitted there, and with each that wants for the memory
+-- of its answer
 pub record WorldsGoOn : Type 0 where
   pub start : (w : ℕ) → IsLegalWorld w [] × IsHonest []
   pub next : (w : ℕ) (world : List Event) (x : Event)

@@ -123,17 +123,24 @@ answer_to w h (EndCall.Opened now) = EndAnswer.Done
 answer_to w h EndCall.Close = EndAnswer.Done
 answer_to w h EndCall.Look = EndAnswer.Look (look_at w h)
 
--- want of memory, which these calls may answer at any time
+-- want of memory, as a call tells it
 abbrev pub IsNoMemory : EndCall → EndAnswer → Type 0
-IsNoMemory (EndCall.Put item id now) answer = answer ≡ EndAnswer.Put (Put.NoMemory item)
 IsNoMemory (EndCall.Heard now incoming) answer =
     answer ≡ EndAnswer.Heard (Heard.NoMemory incoming)
 IsNoMemory (EndCall.Pull now) answer = answer ≡ EndAnswer.Pull Pull.NoMemory
 IsNoMemory call answer = ⊥
 
--- the call got its answer, or there was no memory
+-- an answer for which memory may be wanted: the items that a message releases, and what a pull gives
+abbrev pub NeedsMemory : EndAnswer → Type 0
+NeedsMemory (EndAnswer.Heard (Heard.Released items)) = Unit {0}
+NeedsMemory (EndAnswer.Pull answer) = Unit {0}
+NeedsMemory answer = ⊥
+
+-- the call got its answer, or there was no memory for it
 abbrev pub IsAnswered : ℕ → List Entry → EndCall → EndAnswer → Type 0
-IsAnswered w h call answer = (answer ≡ answer_to w h call) ⊎ IsNoMemory call answer
+IsAnswered w h call answer =
+    (answer ≡ answer_to w h call)
+    ⊎ (IsNoMemory call answer × NeedsMemory (answer_to w h call))
 
 -- a history of an end with the window w: each call got the answer due after the entries before it
 unfoldable pub IsLegal : ℕ → List Entry → Type 0

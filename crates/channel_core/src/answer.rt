@@ -15,8 +15,6 @@ pub enum Put {
     Spent(Item),
     /// The send window is full.
     Full(Item),
-    /// There was no memory. Nothing changed.
-    NoMemory(Item),
 }
 
 /// The answer to a message that is heard: what became of it.
@@ -40,7 +38,8 @@ pub enum Heard {
     Ended,
     /// The end was closed before. Nothing changed.
     AfterClose,
-    /// There was no memory. Nothing changed, and the message is handed back.
+    /// There was no memory for the list of what a stream message would release. It was not taken, and
+    /// is not owed; it is handed back.
     NoMemory(Incoming),
 }
 

@@ -63,8 +63,9 @@ impl Model for End {
 }
 
 impl End {
-    /// A new end, which is not connected, for a window of 1 to 10,000 messages. The side is not kept:
-    /// `wire::outgoing` and `wire::incoming` are told it.
+    /// A new end, which is not connected, for a window of 1 to 10,000 messages. It takes the memory for
+    /// all of them and for what they owe. The side is not kept: `wire::outgoing` and `wire::incoming`
+    /// are told it.
     pub fn new(alloc: Global, _side: Side, window: u64) -> Result<End, NoMemory>
         requires low { 1 ≤ window }
         requires high { window ≤ max_window }
@@ -105,7 +106,7 @@ impl End {
         self.closed = true;
     }
 
-    /// Puts in an item of the user with a MessageId.
+    /// Puts in an item of the user with a MessageId. It takes no memory.
     pub fn put(&mut self, item: Item, id: [u8; 16], now: u64) -> Put
         requires { length item.payload ≤ max_payload }
         ensures { Follows self.old self.new (EndCall.Put item id now) (EndAnswer.Put result) }
@@ -117,7 +118,6 @@ impl End {
             Kept::Seq(seq) => Put::Seq(seq),
             Kept::Spent(item) => Put::Spent(item),
             Kept::Full(item) => Put::Full(item),
-            Kept::NoMemory(item) => Put::NoMemory(item),
         }
     }
 
@@ -147,7 +147,8 @@ impl End {
         }
     }
 
-    /// Hears a message of the other end or the relay.
+    /// Hears a message of the other end or the relay. It takes memory for the list of released items
+    /// alone.
     pub fn heard(&mut self, now: u64, incoming: Incoming) -> Heard
         requires { IsNumbered incoming }
         ensures { Follows self.old self.new (EndCall.Heard now incoming) (EndAnswer.Heard result) }

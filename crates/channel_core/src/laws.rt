@@ -5,8 +5,8 @@
 //!
 //! A world lists what happened at both ends, in order. It is legal where both histories are, and
 //! honest where each message that an end heard had been emitted by the other. A call that wanted for
-//! memory heard nothing, so it may stand anywhere. A world may lose, repeat and reorder messages,
-//! drop connections and pause the ends as it likes.
+//! the memory of its answer heard nothing, whatever came to it. A world may lose, repeat and reorder
+//! messages, drop connections and pause the ends as it likes.
 //!
 //! A law is the contract of a function with an empty body, by the definitions of `specs/`.
 
@@ -80,7 +80,7 @@ pub fn emissions_can_be_encoded()
 {}
 
 /// A world goes on with any call that gets its answer and hears only what was emitted, and with any
-/// that wants for memory, whatever it was to hear.
+/// that wants for the memory of its answer, whatever it was to hear.
 pub fn worlds_go_on()
     ensures { WorldsGoOn }
 {}

@@ -1,13 +1,13 @@
 //! What an end emits, as bytes.
 
-ghost use Rattle.std.specs.Prelude.{◌≡◌, ◌<◌, ◌^◌, pos, IfOk, OnOk, length};
-ghost use Rattle.agent_message.specs.Layout.{IsMessage};
-ghost use Rattle.json_bodies.specs.Ack.{ack_text};
+ghost use Rattle.std.specs.Prelude.{◌≡◌, ◌<◌, ◌^◌, codes, pos, IfOk, OnOk};
+ghost use Rattle.agent_message.specs.Layout.{IsMessage, canonical};
+ghost use Rattle.resend_queue.specs.Queue.{IsTransmittable};
 ghost use Rattle.channel_core.specs.Wire.{CanBeEncoded, ack_body, ack_message, data_name, encoding, message_of, stream_flags, stream_message};
 
 use crate::Outgoing;
-use agent_message::{Message, Name, encode};
-use chan_values::{Bytes, Item, NoMemory, Side, Text};
+use agent_message::{Head, Name, encode_parts};
+use chan_values::{NoMemory, Side, Text};
 use json_bodies::Ack;
 use resend_queue::Sent;
 use std::alloc::Global;
@@ -21,80 +21,91 @@ const SYN: u64 = 1;
 /// Flags of an acknowledgement.
 const SYN_FIN: u64 = 3;
 
-/// The bytes of what an end of this side emits.
+/// The bytes of what an end of this side emits. A payload is copied once, into them.
 pub fn outgoing(alloc: Global, side: Side, out: &Outgoing) -> Result<Vec<u8>, NoMemory>
     requires { CanBeEncoded out.now }
     ensures encoded { IfOk result (λ bytes. bytes.items ≡ encoding side out.now) }
     ensures typed { OnOk result (IsMessage (message_of side out.now)) }
 {
-    let message = message_of(alloc, side, out)?;
-    encode(alloc, &message)
-}
-
-fn message_of(alloc: Global, side: Side, out: &Outgoing) -> Result<Message, NoMemory>
-    requires { CanBeEncoded out.now }
-    ensures { IfOk result (λ message. message ≡ message_of side out.now) }
-{
     match out {
-        Outgoing::Stream(sent) => stream_message(alloc, side, sent),
-        Outgoing::Ack { seq, id, date } => ack_message(alloc, side, *seq, id, *date),
+        Outgoing::Stream(sent) => stream_bytes(alloc, side, sent),
+        Outgoing::Ack { seq, id, date } => ack_bytes(alloc, side, *seq, id, *date),
     }
 }
 
-fn stream_message(alloc: Global, side: Side, sent: &Sent) -> Result<Message, NoMemory>
-    requires { sent.now.seq < 2 ^ 63 }
-    ensures { IfOk result (λ message. message ≡ stream_message side sent.now) }
+fn stream_bytes(alloc: Global, side: Side, sent: &Sent) -> Result<Vec<u8>, NoMemory>
+    requires { IsTransmittable sent.now }
+    ensures encoded { IfOk result (λ bytes.
+        bytes.items ≡ canonical (stream_message side sent.now)) }
+    ensures typed { OnOk result (IsMessage (stream_message side sent.now)) }
 {
-    let item = sent.item.copy(alloc)?;
-    let seq = sent.seq as i64;
-    Ok(message(
-        data_name(side),
-        sent.date,
-        seq,
-        stream_flags(sent.seq),
-        &sent.id,
-        item,
-    ))
+    let head = stream_head(side, sent);
+    encode_parts(alloc, &head, sent.item.payload.as_slice())
 }
 
-fn ack_message(
+fn stream_head(side: Side, sent: &Sent) -> Head
+    requires { sent.now.seq < 2 ^ 63 }
+    ensures { result
+        ≡ record {
+          name = data_name side;
+          schema = 1;
+          date = sent.now.date;
+          seq = pos sent.now.seq;
+          flags = stream_flags sent.now.seq;
+          id = sent.now.id;
+          ptype = sent.now.item.ptype;
+        } }
+{
+    Head {
+        name: data_name(side),
+        schema: SCHEMA,
+        date: sent.date,
+        seq: sent.seq as i64,
+        flags: stream_flags(sent.seq),
+        id: sent.id,
+        ptype: sent.item.ptype,
+    }
+}
+
+fn ack_bytes(
     alloc: Global,
     side: Side,
     seq: u64,
     id: &[u8; 16],
     date: u64,
-) -> Result<Message, NoMemory>
-    requires { seq < 2 ^ 63 }
-    ensures { IfOk result (λ message. message ≡ ack_message side seq id.now date) }
+) -> Result<Vec<u8>, NoMemory>
+    requires small { seq < 2 ^ 63 }
+    requires dated { 0 < date }
+    ensures encoded { IfOk result (λ bytes.
+        bytes.items ≡ canonical (ack_message side seq id.now date)) }
+    ensures typed { OnOk result (IsMessage (ack_message side seq id.now date)) }
 {
     let body = ack_body(alloc, side, seq, *id)?;
-    let payload = Bytes::new(body.write(alloc)?);
-    let item = Item { ptype: 0, payload };
-    Ok(message(Name::acknowledge(), date, 0, SYN_FIN, id, item))
+    let payload = body.write(alloc)?;
+    let head = ack_head(id, date);
+    encode_parts(alloc, &head, payload.as_slice())
 }
 
-fn message(name: Name, date: u64, seq: i64, flags: u64, id: &[u8; 16], item: Item) -> Message
+fn ack_head(id: &[u8; 16], date: u64) -> Head
     ensures { result
         ≡ record {
-          name = name;
+          name = codes "acknowledge";
           schema = 1;
           date = date;
-          seq = seq;
-          flags = flags;
+          seq = pos 0;
+          flags = 3;
           id = id.now;
-          ptype = item.ptype;
-          payload = item.payload;
+          ptype = 0;
         } }
 {
-    Message {
-        name,
+    Head {
+        name: Name::acknowledge(),
         schema: SCHEMA,
         date,
-        seq,
-        flags,
+        seq: 0,
+        flags: SYN_FIN,
         id: *id,
-        ptype: item.ptype,
-        payload: item.payload,
+        ptype: 0,
     }
 }
 

@@ -1,9 +1,8 @@
 use Rattle.std.proofs.Common.{◌+◌, refl}
 use Rattle.receive_window.specs.declared.take.Take.TheVariants as Take
 use Rattle.receive_window.specs.Window.{is_taken}
-use Rattle.channel_core.specs.declared.message.Incoming.TheVariants as Incoming
-use Rattle.channel_core.proofs.HeardLemmas.{beyond_goes, heard_none_goes, late_goes}
-use Rattle.channel_core.proofs.ReleaseLemmas.{beyond-late, inside, released-beyond, released-late, released_goes, untaken}
+use Rattle.channel_core.proofs.HeardLemmas.{beyond_goes, late_goes, no_memory_goes}
+use Rattle.channel_core.proofs.ReleaseLemmas.{beyond-late, inside, no_memory-beyond, no_memory-late, released-beyond, released-late, released_goes, untaken}
 use Rattle.channel_core.proofs.end.End.hear_stream.Goals as goal
 
 pub returns-in-Released : goal.returns-in-Released
@@ -46,8 +45,16 @@ returns-in-Beyond c now w h legal s =
 
 pub returns-in-NoMemory : goal.returns-in-NoMemory
 returns-in-NoMemory c now w h legal s =
-    let known = c.in-NoMemory.ensures.refused in
-    rw known.0
-    (heard_none_goes w h now
-    (Incoming.Stream c.args.seq c.args.id c.args.item) c.args.self.now _ legal s
-    (rw (← c.self.view_is, known.1) refl))
+    let before = c.self.inside in
+    let back = c.in-NoMemory.item in
+    let known = c.in-NoMemory.ensures in
+    rw known.refused.0
+    (no_memory_goes w h now c.args.seq c.args.id c.args.item c.args.self.now _ legal s
+    c.requires.open
+    (rw (← c.self.view_is)
+    (untaken (is_taken before.received c.args.seq) (Take.NoMemory back)
+    (no_memory-late back) known.late.1))
+    (rw (← c.self.view_is)
+    (inside c.args.seq (before.received.expected + before.received.window) (Take.NoMemory back)
+    (no_memory-beyond back) known.beyond.1))
+    (rw (← c.self.view_is, known.refused.1) refl))

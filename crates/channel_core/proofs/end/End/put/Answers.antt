@@ -1,7 +1,7 @@
 use Rattle.std.proofs.Common.{◌≡◌, refl, sym, ◌∙◌, ap}
 use Rattle.channel_core.proofs.PutLemmas.{put_closed_goes, put_goes, put_of}
 use Rattle.channel_core.proofs.end.End.put.Goals as goal
-use Rattle.channel_core.proofs.end.End.put.Goals.{in-Seq, in-Spent, in-Full, in-NoMemory}
+use Rattle.channel_core.proofs.end.End.put.Goals.{in-Seq, in-Spent, in-Full}
 
 pub returns-then-self : goal.returns-then-self
 returns-then-self c w h legal s =
@@ -14,7 +14,6 @@ given c = elim c.match-put.branch [
   | in-Seq w ↦ w.result-is ∙ sym (ap put_of w.in-Seq.is)
   | in-Spent w ↦ w.result-is ∙ sym (ap put_of w.in-Spent.is)
   | in-Full w ↦ w.result-is ∙ sym (ap put_of w.in-Full.is)
-  | in-NoMemory w ↦ w.result-is ∙ sym (ap put_of w.in-NoMemory.is)
 ]
 
 pub returns : goal.returns
