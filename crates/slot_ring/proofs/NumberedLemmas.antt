@@ -24,8 +24,7 @@ module _ {T : Type 0} where
       (numbered-agree f g (a + 1) m (λ k low high. same k (omega arith) (omega arith)))
 
   -- a look-up of another number passes an entry by
-  value_with-other : (n a : ℕ) (o : Option T) (es : List (ℕ × T))
-      → (n ≡ a → ⊥)
+  value_with-other : (n a : ℕ) (o : Option T) (es : List (ℕ × T)) → (n ≡ a → ⊥)
       → value_with (entry a o es) n ≡ value_with es n
   value_with-other n a None es differ = refl
   value_with-other n a (Some v) es differ = rw (ne_eqb n a differ) refl
