@@ -82,7 +82,8 @@ AreNew es = IsDistinct nat_eq (openings es)
 
 -- an opening is that of a connection which no earlier event let in
 abbrev pub IsNew : List Event → Event → Type 0
-IsNew es (Event.Opened conn session role reply) = list_any (nat_eq conn) (openings es) ≡ false
+IsNew es (Event.Opened conn session role reply) =
+    list_any (λ c. nat_eq c conn) (openings es) ≡ false
 IsNew es event = Unit {0}
 
 -- an end of a session, as a place
@@ -92,7 +93,7 @@ place session role = record { session = session; role = role }
 -- where this event lets the connection in
 abbrev pub place_opened : ℕ → Event → Option Place
 place_opened conn (Event.Opened c session role reply) =
-    if nat_eq conn c then Some (place session role) else None
+    if nat_eq c conn then Some (place session role) else None
 place_opened conn event = None
 
 -- where a connection was let in

@@ -148,11 +148,7 @@ pub(crate) fn change_room(
 }
 
 /// Takes a lost connection out of the room of its session.
-pub(crate) fn clear_room(
-    rooms: &mut BTreeMap<SessionName, Room>,
-    session: &SessionName,
-    conn: u64,
-)
+pub(crate) fn clear_room(rooms: &mut BTreeMap<SessionName, Room>, session: &SessionName, conn: u64)
     ensures { SetsRoom session.now (cleared_room conn (room_in rooms.old.entries session.now))
         rooms.old.entries rooms.new.entries }
 {

@@ -1,0 +1,11 @@
+pub mod EventLemmas
+pub mod FollowLemmas
+pub mod HeldLemmas
+pub mod InsideLemmas
+pub mod IsolationLemmas
+pub mod KnownLemmas
+pub mod OwnLemmas
+pub mod PeerLemmas
+pub mod RoomLemmas
+pub mod StandsLemmas
+pub mod TestLemmas
