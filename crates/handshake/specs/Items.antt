@@ -26,6 +26,6 @@ completion_item begun now =
 
 -- the item has another type than the awaited one, or its payload shows a fault
 abbrev pub IsOther : ℕ → (List ℕ → BodyFault → Type 0) → Item → Why → Type 0
-IsOther awaited Shows item (Why.Order ptype) = (item.ptype ≢ awaited) × (ptype ≡ item.ptype)
-IsOther awaited Shows item (Why.Body fault) = (item.ptype ≡ awaited) × Shows item.payload fault
-IsOther awaited Shows item why = ⊥
+IsOther awaited IsShown item (Why.Order ptype) = (item.ptype ≢ awaited) × (ptype ≡ item.ptype)
+IsOther awaited IsShown item (Why.Body fault) = (item.ptype ≡ awaited) × IsShown item.payload fault
+IsOther awaited IsShown item why = ⊥

@@ -1,6 +1,6 @@
 //! What a client answers to a request: the response, and the session that is agreed on.
 
-ghost use Rattle.std.specs.Prelude.{◌≡◌, IfOk, IfErr, map, find, option_and_then};
+ghost use Rattle.std.specs.Prelude.{◌≡◌, IfOk, IfErr, map, find, option_and_then, option_map};
 ghost use Rattle.handshake.specs.Client.{IsNoRequest, IsRequest};
 ghost use Rattle.handshake.specs.Items.{response_item};
 ghost use Rattle.handshake.specs.Sessions.{action_name, agreed_session, asks_session, processed, response_to, session_asked};
@@ -127,10 +127,17 @@ fn agreed_session(alloc: Global, actions: &[Action]) -> Result<Option<Agreed>, N
     ensures { IfOk result
         (λ agreed. agreed ≡ option_and_then session_asked (find asks_session actions.now)) }
 {
-    match actions.iter().find(|action| asks_session(action)) {
+    match first_asking(actions) {
         Some(action) => session_asked(alloc, action),
         None => Ok(None),
     }
+}
+
+/// The first of these actions that asks for a session of one of the two types.
+fn first_asking(actions: &[Action]) -> Option<&Action>
+    ensures { option_map (λ action. action.now) result ≡ find asks_session actions.now }
+{
+    actions.iter().find(|action| asks_session(action))
 }
 
 /// The session that an action asks for, if it is of one of the two types.

@@ -1,0 +1,3 @@
+pub mod AgentLemmas
+pub mod ClientLemmas
+pub mod StopLemmas
