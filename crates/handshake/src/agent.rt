@@ -158,7 +158,10 @@ impl AgentStage {
                 Ok(completion) => (AgentStage::Done, Step::Finish(completion, choice)),
                 Err(Stop::Refused(why)) => (AgentStage::Refused(why), Step::Refused(why)),
                 Err(Stop::NoMemory) => {
-                    (AgentStage::ExpectResponse(choice, asked), Step::NoMemory(item))
+                    (
+                        AgentStage::ExpectResponse(choice, asked),
+                        Step::NoMemory(item),
+                    )
                 }
             },
             AgentStage::Done => (AgentStage::Done, Step::Pass(item)),

@@ -38,7 +38,10 @@ fn a_response_finishes_the_handshake(rt: HostRuntime) -> Result<(), Fail> {
     assert_eq!(rt; agreed.session, SessionType::Standard);
     let back = pass(agent.step(item(rt.alloc(), 6, "a")?, 9))?;
     assert_eq!(rt; back.ptype, 6);
-    assert!(rt; back.payload.as_slice() == b"a".as_slice(), "the item is passed on");
+    assert!(rt;
+        back.payload.as_slice() == b"a".as_slice(),
+        "the item is passed on"
+    );
     Ok(())
 }
 

@@ -31,7 +31,10 @@ fn a_completion_begins_the_session(rt: HostRuntime) -> Result<(), Fail> {
     assert_eq!(rt; agreed.session, SessionType::Standard);
     let back = pass(client.step(item(rt.alloc(), 5, "a")?, 0))?;
     assert_eq!(rt; back.ptype, 5);
-    assert!(rt; back.payload.as_slice() == b"a".as_slice(), "the item is passed on");
+    assert!(rt;
+        back.payload.as_slice() == b"a".as_slice(),
+        "the item is passed on"
+    );
     Ok(())
 }
 

@@ -1,3 +1,0 @@
-pub mod AgentLemmas
-pub mod ClientLemmas
-pub mod StopLemmas
