@@ -28,3 +28,6 @@ pub use row::{Chain, OldChain, OldRow, Row, upgrade};
 pub use sqlite_keeper::SqliteKeeper;
 pub use token::{TOKEN_DIGITS, Token};
 pub use token_value::TokenValue;
+
+#[cfg(test)]
+mod tests;

@@ -143,6 +143,3 @@ impl<K: Keeper + Drop> Register<K> {
         })
     }
 }
-
-#[cfg(test)]
-mod tests;

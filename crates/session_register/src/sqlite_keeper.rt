@@ -167,6 +167,3 @@ fn save_in<S: Alter>(
         None => Err(IoFault::Failed),
     }
 }
-
-#[cfg(test)]
-mod tests;
