@@ -21,9 +21,11 @@ use Rattle.channel_core.specs.Stands.{EndState, Stands}
 use Rattle.channel_core.proofs.EarlyLemmas.{early_of}
 use Rattle.channel_core.proofs.HistoryLemmas.{acked_numbers-push}
 use Rattle.channel_core.proofs.NumberLemmas.{least_absent-grows, least_absent-is, least_absent-unique, has_number-last, has_number-more, has_number-other}
-use Rattle.channel_core.proofs.PendingLemmas.{Sending, kept_all, kept_all-acked, kept_at, message_of}
+use Rattle.channel_core.proofs.PendingLemmas.{Sending, kept_all, kept_at, message_of}
+use Rattle.channel_core.proofs.KeptLemmas.{kept_all-acked}
 use Rattle.channel_core.proofs.SearchLemmas.{find_number, first_number-kept, message_there}
-use Rattle.channel_core.proofs.SendingLemmas.{IsOrderly, due_count-above, due_count-push, low-le, orderly, sending, sending_after}
+use Rattle.channel_core.proofs.SendingLemmas.{due_count-push, IsOrderly, sending, sending_after}
+use Rattle.channel_core.proofs.DueLemmas.{due_count-above, low-le, orderly}
 use Rattle.channel_core.proofs.StandsLemmas.{Goes, goes, nothing_goes, or-false, queue_after-is, queue_of, sending-acked, still}
 
 -- a number waits for its acknowledgement

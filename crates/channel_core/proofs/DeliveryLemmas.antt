@@ -18,11 +18,13 @@ use Rattle.channel_core.specs.Laws.{AcknowledgedHasArrived, EachNumberIsTakenOnc
 use Rattle.channel_core.specs.Legal.{IsAnswered, IsNoMemory, answer_to, answer_to_heard, answer_to_incoming}
 use Rattle.channel_core.specs.Numbers.{has_number, numbers_of}
 use Rattle.channel_core.specs.World.{Event, IsHonest, IsLegalWorld, WasEmitted, history_of}
-use Rattle.channel_core.proofs.AgreementLemmas.{Agree, IsHeardOf, IsPutAs, IsSentFrom, agree}
+use Rattle.channel_core.proofs.AgreementLemmas.{Agree, IsHeardOf, IsPutAs, IsSentFrom}
+use Rattle.channel_core.proofs.ReceiverLemmas.{agree}
 use Rattle.channel_core.proofs.HistoryLemmas.{by_pushes}
 use Rattle.channel_core.proofs.ItemLemmas.{item_with-contains, item_with-meets, item_with-there, filter_map-reads}
 use Rattle.channel_core.proofs.NumberLemmas.{least_absent-is, least_absent-le}
-use Rattle.channel_core.proofs.SoundLemmas.{IsConsistent, sound, within_window}
+use Rattle.channel_core.proofs.SoundLemmas.{IsConsistent, sound}
+use Rattle.channel_core.proofs.WindowLemmas.{within_window}
 use Rattle.channel_core.proofs.WorldLemmas.{IsHonest-pushed, IsLegalWorld-pushed, other-other}
 use Rattle.channel_core.specs.declared.message.Outgoing.{Outgoing}
 use Rattle.channel_core.proofs.LegalLemmas.{ack_cases, answered_cases, stream_cases}

@@ -17,13 +17,15 @@ use Rattle.channel_core.specs.Laws.{ExchangeReleasesAll}
 use Rattle.channel_core.specs.Legal.{IsAnswered}
 use Rattle.channel_core.specs.Numbers.{has_number, numbers_of}
 use Rattle.channel_core.specs.World.{Event, IsHonest, IsLegalWorld, WasEmitted, history_of}
-use Rattle.channel_core.proofs.AgreementLemmas.{Agree, agree}
+use Rattle.channel_core.proofs.AgreementLemmas.{Agree}
+use Rattle.channel_core.proofs.ReceiverLemmas.{agree}
 use Rattle.channel_core.proofs.DeliveryLemmas.{released_items-front}
 use Rattle.channel_core.proofs.HistoryLemmas.{is_paused-push, is_up-push, sent_since_opened-push}
 use Rattle.channel_core.proofs.NumberLemmas.{least_absent-is}
 use Rattle.channel_core.proofs.SoundLemmas.{IsConsistent, sound}
 use Rattle.channel_core.proofs.WorldLemmas.{append_two, IsHonest-push, IsLegalWorld-front, IsLegalWorld-pushed, WasEmitted-of, history_of-away, history_of-here, history_of-there, other-other}
-use Rattle.channel_core.proofs.PassLemmas.{AllTaken, BothReady, GoesOn, Hears, IsPassed, IsReady, Unclosed, Unclosed-front, goes_on, goes_on-join, hears, idle_passed, idle_taken, passed, pulled, ready_back}
+use Rattle.channel_core.proofs.PassLemmas.{Hears, IsPassed, IsReady, hears, passed, pulled}
+use Rattle.channel_core.proofs.IdleLemmas.{AllTaken, BothReady, GoesOn, Unclosed, Unclosed-front, goes_on, goes_on-join, idle_passed, idle_taken, ready_back}
 
 -- one emission and its hearing
 pair_after : (w : ℕ) (side : Side) (world : List Event) (x y : Event) (out : Outgoing)

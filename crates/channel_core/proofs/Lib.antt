@@ -1,6 +1,7 @@
 mod Examples
 pub mod AckLemmas
 pub mod AgreementLemmas
+pub mod ReceiverLemmas
 pub mod ArrivalLemmas
 pub mod CountLemmas
 pub mod DeliveryLemmas
@@ -14,17 +15,24 @@ pub mod LegalLemmas
 pub mod NumberLemmas
 pub mod OpenedLemmas
 pub mod OwedLemmas
+pub mod OwedSinceLemmas
+pub mod OrderLemmas
 pub mod PassLemmas
+pub mod IdleLemmas
 pub mod PendingLemmas
+pub mod KeptLemmas
 pub mod PossibleLemmas
 pub mod PullLemmas
 pub mod PutLemmas
 pub mod ReleaseLemmas
 pub mod SearchLemmas
 pub mod SendingLemmas
+pub mod DueLemmas
 pub mod ShortLemmas
 pub mod SinceLemmas
+pub mod SinceLaws
 pub mod SoundLemmas
+pub mod WindowLemmas
 pub mod StandsLemmas
 pub mod TickLemmas
 pub mod WireLemmas

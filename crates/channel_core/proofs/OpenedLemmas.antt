@@ -8,7 +8,8 @@ use Rattle.channel_core.specs.History.{lowest_unacked, put_messages}
 use Rattle.channel_core.specs.Legal.{IsLegal}
 use Rattle.channel_core.specs.Resending.{due_count}
 use Rattle.channel_core.specs.Stands.{EndState, Stands}
-use Rattle.channel_core.proofs.PendingLemmas.{Sending, kept_all-unsent}
+use Rattle.channel_core.proofs.PendingLemmas.{Sending}
+use Rattle.channel_core.proofs.KeptLemmas.{kept_all-unsent}
 use Rattle.channel_core.proofs.SendingLemmas.{sending}
 use Rattle.channel_core.proofs.StandsLemmas.{Goes, dues-same, or-false, queue_after-is, queue_of, sending-still, step_goes, still_goes, still}
 

@@ -19,7 +19,7 @@ use Rattle.channel_core.specs.World.{Event, IsLegalWorld, history_of}
 use Rattle.channel_core.proofs.ExchangeLemmas.{openings, openings_parts}
 use Rattle.channel_core.proofs.HistoryLemmas.{is_closed-push}
 use Rattle.channel_core.proofs.LegalLemmas.{ack_cases, pull_cases, stream_cases}
-use Rattle.channel_core.proofs.PassLemmas.{Unclosed}
+use Rattle.channel_core.proofs.IdleLemmas.{Unclosed}
 use Rattle.channel_core.proofs.ShortLemmas.{backlog, backlog_falls, backlog_within}
 use Rattle.channel_core.proofs.WorldLemmas.{event_of, append_two-holds, IsLegalWorld-push, cases_side, history_of-here, history_of-there}
 

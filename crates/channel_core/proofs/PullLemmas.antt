@@ -17,7 +17,8 @@ use Rattle.channel_core.specs.Numbers.{has_number, least_below}
 use Rattle.channel_core.specs.Resending.{due_count, is_eligible, marked_due, sent_since_opened, transmissions}
 use Rattle.channel_core.specs.Stands.{EndState, Stands}
 use Rattle.channel_core.proofs.NumberLemmas.{least_below-some}
-use Rattle.channel_core.proofs.PendingLemmas.{Sending, kept_all, kept_all-emitted, kept_at, message_of}
+use Rattle.channel_core.proofs.PendingLemmas.{Sending, kept_all, kept_at, message_of}
+use Rattle.channel_core.proofs.KeptLemmas.{kept_all-emitted}
 use Rattle.channel_core.proofs.SearchLemmas.{find-least, least_below-agree, message_there, passes_at}
 use Rattle.channel_core.proofs.SendingLemmas.{sending}
 use Rattle.channel_core.proofs.StandsLemmas.{Goes, dues-same, nothing_goes, or-false, queue_after-is, queue_of, sending-emitted, step_goes, still_goes, still}

@@ -14,9 +14,11 @@ use Rattle.channel_core.specs.Legal.{IsLegal, answer_to_put}
 use Rattle.channel_core.specs.Numbers.{has_number}
 use Rattle.channel_core.specs.Resending.{due_count, marked_due, sent_since_opened}
 use Rattle.channel_core.specs.Stands.{EndState, Stands}
-use Rattle.channel_core.proofs.PendingLemmas.{Sending, kept_all, kept_all-put}
+use Rattle.channel_core.proofs.PendingLemmas.{Sending, kept_all}
+use Rattle.channel_core.proofs.KeptLemmas.{kept_all-put}
 use Rattle.channel_core.proofs.SearchLemmas.{first_number-kept}
-use Rattle.channel_core.proofs.SendingLemmas.{IsOrderly, low-le, orderly, sending}
+use Rattle.channel_core.proofs.SendingLemmas.{IsOrderly, sending}
+use Rattle.channel_core.proofs.DueLemmas.{low-le, orderly}
 use Rattle.channel_core.proofs.StandsLemmas.{Goes, IsStill, dues-same, nothing_goes, or-false, queue_after-is, queue_of, sending-put, step_goes, still}
 use Rattle.chan_values.specs.Limits.{max_seq}
 

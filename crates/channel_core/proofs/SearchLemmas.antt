@@ -9,7 +9,8 @@ use Rattle.channel_core.specs.History.{PutMessage}
 use Rattle.channel_core.specs.Numbers.{has_number, least_absent, least_below, or_else}
 use Rattle.channel_core.proofs.NumberLemmas.{least_absent-is, least_below-some}
 use Rattle.channel_core.proofs.ItemLemmas.{range_with_len-add}
-use Rattle.channel_core.proofs.PendingLemmas.{Sending, kept_all, kept_at, kept_at-seq, message_at, message_of, none_over, slice_get-past}
+use Rattle.channel_core.proofs.PendingLemmas.{Sending, kept_all, kept_at, message_at, message_of, none_over, slice_get-past}
+use Rattle.channel_core.proofs.KeptLemmas.{kept_at-seq}
 
 -- whether a value is there and passes
 abbrev pub passes_at : {Y : Type 0} → (Y → Bool) → Option Y → Bool

@@ -14,9 +14,11 @@ use Rattle.channel_core.specs.Legal.{IsAnswered, IsLegal, answer_to_tick, is_exp
 use Rattle.channel_core.specs.Numbers.{has_number}
 use Rattle.channel_core.specs.Resending.{due_count, last_moment, marked_due, round_trip, sent_since_opened, transmissions}
 use Rattle.channel_core.specs.Stands.{EndState, Stands}
-use Rattle.channel_core.proofs.PendingLemmas.{Sending, kept_all-marked, message_of}
+use Rattle.channel_core.proofs.PendingLemmas.{Sending, message_of}
+use Rattle.channel_core.proofs.KeptLemmas.{kept_all-marked}
 use Rattle.channel_core.proofs.SearchLemmas.{first_number-kept, kept_all-first, kept_all-none}
-use Rattle.channel_core.proofs.SendingLemmas.{IsOrderly, due_answered, low-le, orderly, sending, sending_after}
+use Rattle.channel_core.proofs.SendingLemmas.{IsOrderly, sending, sending_after}
+use Rattle.channel_core.proofs.DueLemmas.{due_answered, low-le, orderly}
 use Rattle.channel_core.proofs.StandsLemmas.{Goes, dues-same, nothing_goes, or-false, queue_after-is, queue_of, sending-still, step_goes, still_goes, still}
 use Rattle.channel_core.proofs.OpenedLemmas.{or-true}
 use Rattle.resend_queue.specs.Queue.{max_dues}

@@ -1,4 +1,4 @@
-use Rattle.channel_core.proofs.OwedLemmas.{acks_keep_their_order}
+use Rattle.channel_core.proofs.OrderLemmas.{acks_keep_their_order}
 use Rattle.channel_core.proofs.laws.acks_keep_their_order.Goals as goal
 
 pub returns : goal.returns

@@ -1,4 +1,4 @@
-use Rattle.channel_core.proofs.SinceLemmas.{paused_is_paused_last}
+use Rattle.channel_core.proofs.SinceLaws.{paused_is_paused_last}
 use Rattle.channel_core.proofs.laws.paused_is_paused_last.Goals as goal
 
 pub returns : goal.returns
