@@ -1,5 +1,5 @@
 -- What one step of a script leaves at the two ends.
-use Rattle.std.proofs.Common.{◌≡◌, ⊎_elim, ℕ, Bool, true, false, cond, Option, Some, None, List, [], ◌∷◌, ◌++◌, length, map, refl, sym, ap, subst, ◌∙◌, Result, IfOk, MatchOption, append-nil}
+use Rattle.std.proofs.Common.{◌≡◌, ℕ, Bool, true, false, cond, Option, Some, None, List, [], ◌∷◌, ◌++◌, length, map, refl, sym, ap, subst, ◌∙◌, Result, IfOk, MatchOption, append-nil}
 use Rattle.std.specs.Prelude.{nat_lt}
 use Rattle.std.specs.List.{All, cons_option}
 use Rattle.std.specs.Str.{bytes_eq}
@@ -25,7 +25,7 @@ use Rattle.channel_core.specs.Stands.{EndState, Follows, Stands}
 use Rattle.channel_core.specs.Wire.{encoding, message_of}
 use Rattle.channel_core.specs.World.{Event, IsLegalWorld, history_of}
 use Rattle.channel_core.proofs.HistoryLemmas.{emissions-push}
-use Rattle.channel_core.proofs.LegalLemmas.{IsLegal-nil, IsLegal-pushed}
+use Rattle.channel_core.proofs.LegalLemmas.{IsLegal-nil, IsLegal-pushed, answered_cases}
 use Rattle.channel_core.proofs.WorldLemmas.{history_of-here, history_of-away}
 use Rattle.lab_script.specs.declared.outcome.Outcome.{Outcome}
 use Rattle.lab_script.specs.declared.verb.Verb.{Verb}
@@ -41,15 +41,14 @@ due_answer : (w : ℕ) (h : List Entry) (call : EndCall) (answer : EndAnswer)
     → ¬ IsNoMemory call answer
     → answer ≡ answer_to w h call
 due_answer w h call answer answered memory =
-    ⊎_elim (λ (is : answer ≡ answer_to w h call). is)
-    (λ (is : IsNoMemory call answer). absurd (memory is)) answered
+    answered_cases w h call answer answered (λ (is : answer ≡ answer_to w h call). is)
+    (λ (is : IsNoMemory call answer). absurd (memory is))
 
 put_emits : (answer : Put) → encodings_in (outcome_of_put answer) ≡ []
 put_emits (Put.Seq n) = refl
 put_emits (Put.Closed item) = refl
 put_emits (Put.Spent item) = refl
 put_emits (Put.Full item) = refl
-put_emits (Put.NoMemory item) = refl
 
 heard_emits : (answer : Heard) → encodings_in (outcome_of_heard answer) ≡ []
 heard_emits (Heard.Released items) = refl

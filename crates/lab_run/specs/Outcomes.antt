@@ -15,7 +15,6 @@ outcome_of_put (Put.Seq n) = Outcome.Seq n
 outcome_of_put (Put.Closed item) = Outcome.Closed
 outcome_of_put (Put.Spent item) = Outcome.Spent
 outcome_of_put (Put.Full item) = Outcome.Full
-outcome_of_put (Put.NoMemory item) = Outcome.Quiet
 
 -- what is reported of a message that was heard
 abbrev pub outcome_of_heard : Heard → Outcome

@@ -21,17 +21,16 @@ use lab_script::Outcome;
 use std::alloc::Global;
 
 /// Puts in an item, with the MessageId of the line.
-pub fn put(end: &mut End, item: Item, line: u64, now: u64) -> Result<Outcome, NoMemory>
+pub fn put(end: &mut End, item: Item, line: u64, now: u64) -> Outcome
     requires { length item.payload ≤ max_payload }
     ensures { (side : Side) (k : ℕ) →
-        IfOk result (IsCalled side k (EndCall.Put item (id_of line) now) end.old end.new) }
+        IsCalled side k (EndCall.Put item (id_of line) now) end.old end.new result }
 {
     match end.put(item, id_of(line), now) {
-        Put::Seq(seq) => Ok(Outcome::Seq(seq)),
-        Put::Closed(_) => Ok(Outcome::Closed),
-        Put::Spent(_) => Ok(Outcome::Spent),
-        Put::Full(_) => Ok(Outcome::Full),
-        Put::NoMemory(_) => Err(NoMemory),
+        Put::Seq(seq) => Outcome::Seq(seq),
+        Put::Closed(_) => Outcome::Closed,
+        Put::Spent(_) => Outcome::Spent,
+        Put::Full(_) => Outcome::Full,
     }
 }
 

@@ -72,7 +72,7 @@ impl Endpoint {
         let side = self.side;
         let now = context.moment;
         match action {
-            Action::Put { item } => calls::put(&mut self.end, item, context.line, now),
+            Action::Put { item } => Ok(calls::put(&mut self.end, item, context.line, now)),
             Action::Pull => {
                 let number = self.sent.len() as u64;
                 calls::pull(alloc, side, &mut self.end, number, now)

@@ -9,7 +9,7 @@ returns-in-Seq c side k =
     record {
       answer = EndAnswer.Put (Put.Seq c.in-Seq.seq);
       follows = rw (← c.id_of.ensures) c.in-Seq.ensures;
-      memory = λ e. cc;
+      memory = λ e. e;
       told = refl;
       sendable = All-nil _;
     }
@@ -19,7 +19,7 @@ returns-in-Closed c side k =
     record {
       answer = EndAnswer.Put (Put.Closed c.in-Closed.field-0);
       follows = rw (← c.id_of.ensures) c.in-Closed.ensures;
-      memory = λ e. cc;
+      memory = λ e. e;
       told = refl;
       sendable = All-nil _;
     }
@@ -29,17 +29,17 @@ returns-in-Spent c side k =
     record {
       answer = EndAnswer.Put (Put.Spent c.in-Spent.field-0);
       follows = rw (← c.id_of.ensures) c.in-Spent.ensures;
-      memory = λ e. cc;
+      memory = λ e. e;
       told = refl;
       sendable = All-nil _;
     }
 
-pub returns-in-Full : goal.returns-in-Full
-returns-in-Full c side k =
+pub returns : goal.returns
+returns c side k =
     record {
       answer = EndAnswer.Put (Put.Full c.in-Full.field-0);
       follows = rw (← c.id_of.ensures) c.in-Full.ensures;
-      memory = λ e. cc;
+      memory = λ e. e;
       told = refl;
       sendable = All-nil _;
     }

@@ -38,7 +38,7 @@ returns-in-Put c w world legal here there =
     rw c.in-Put.is
     (made w world c.args.context.now verbs.Put
     (EndCall.Put c.in-Put.item (id_of c.args.context.now.line) c.args.context.now.moment)
-    c.args.self.now _ c.put.result legal here (c.put.ensures _ _))
+    c.args.self.now _ (Ok c.put.result) legal here (c.put.ensures _ _))
 
 pub returns-in-Tick : goal.returns-in-Tick
 returns-in-Tick c w world legal here there =
