@@ -1,5 +1,5 @@
 -- Each event's answer, and what is kept after it, are those due.
-use Rattle.std.proofs.Common.{◌≡◌, ℕ, Result, Ok, Err, List, [], ◌∷◌, ◌++◌, ap, ◌∙◌}
+use Rattle.std.proofs.Common.{◌≡◌, ℕ, Result, Ok, Err, List, ap, ◌∙◌}
 use Rattle.std.specs.Result.{IfOk, OnErr, OnOk}
 use Rattle.chan_values.specs.declared.side.Side.{Side}
 use Rattle.relay_core.specs.declared.action.Action.{Action}

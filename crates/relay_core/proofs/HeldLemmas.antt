@@ -1,5 +1,5 @@
 -- Who was let in last and not lost, after one event more.
-use Rattle.std.proofs.Common.{◌≡◌, ℕ, Bool, true, false, cond, not, nat_eq, ◌||◌, ◌&&◌, Option, Some, None, List, [], ◌∷◌, ◌++◌, reverse, sym, ap, ◌∙◌, refl, append_assoc, append-nil}
+use Rattle.std.proofs.Common.{◌≡◌, ℕ, Bool, true, false, cond, nat_eq, ◌||◌, ◌&&◌, Option, Some, None, List, [], ◌∷◌, ◌++◌, reverse, sym, ap, ◌∙◌, refl, append_assoc, append-nil}
 use Rattle.std.specs.List.{cons_option, filter_map, fold, list_any, slice_get, take_while}
 use Rattle.std.specs.Option.{is_none}
 use Rattle.std.proofs.lemmas.List.{reverse-append}
@@ -60,11 +60,13 @@ module _ (session : List ℕ) (role : Side) where
   -- the same, of the events with the latest first
   abbrev held_in : List Event → Option ℕ
   held_in es =
-      unless_lost (take_while opens_none es) (slice_get (filter_map (conn_opened session role) es) 0)
+      unless_lost (take_while opens_none es)
+      (slice_get (filter_map (conn_opened session role) es) 0)
 
   held-more : (es : List Event) (e : Event)
       → unless_lost (cond (opens_none e) (e ∷ take_while opens_none es) [])
-      (slice_get (cons_option (conn_opened session role e) (filter_map (conn_opened session role) es)) 0)
+      (slice_get
+      (cons_option (conn_opened session role e) (filter_map (conn_opened session role) es)) 0)
       ≡ held_after session role (held_in es) e
   held-more es (Event.Opened conn s r reply) =
       opened-by (same_name s session && same_side r role) (Event.Opened conn s r reply) conn
@@ -86,7 +88,9 @@ module _ (session : List ℕ) (role : Side) where
   last_held-push es e =
       ap held_in (reverse-append es (e ∷ []))
       ∙ ap (λ later. unless_lost later
-      (slice_get (cons_option (conn_opened session role e) (filter_map (conn_opened session role) (reverse es))) 0))
+      (slice_get
+      (cons_option (conn_opened session role e)
+      (filter_map (conn_opened session role) (reverse es))) 0))
       (take_while-cons opens_none e (reverse es))
       ∙ held-more (reverse es) e
 

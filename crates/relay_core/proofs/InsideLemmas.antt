@@ -4,13 +4,12 @@ use Rattle.std.specs.List.{AllByRecursion}
 use Rattle.chan_values.specs.declared.side.Side.{Side}
 use Rattle.chan_values.specs.declared.side.Side.TheVariants.{Plugin, Agent}
 use Rattle.chan_values.specs.Sides.{other}
-use Rattle.session_register.specs.Names.{same_name}
 use Rattle.session_register.proofs.NameLemmas.{same_name-true}
 use Rattle.relay_core.specs.declared.action.Action.{Action}
 use Rattle.relay_core.specs.declared.event.Event.{Event}
 use Rattle.relay_core.specs.declared.place.Place.{Place}
-use Rattle.relay_core.specs.Messages.{closing, pause, start}
-use Rattle.relay_core.specs.Rooms.{across, at, dismissal, forwards, greeting, greetings, holder, is_conn, pauses}
+use Rattle.relay_core.specs.Messages.{pause}
+use Rattle.relay_core.specs.Rooms.{at, dismissal, greeting, holder, is_conn}
 use Rattle.relay_core.specs.Forwarding.{actions, current, is_ended, peer_at, peer_of, place_of, room_told}
 use Rattle.relay_core.specs.Isolation.{belongs, is_in, target}
 use Rattle.relay_core.proofs.EventLemmas.{holder-told}

@@ -23,7 +23,8 @@ module _ (all : List Event) (session : List ℕ) where
       let same = same_name-true s session own in
       ap (λ name. greetings (room_told es name) name conn role reply id now) same
       ∙ ap (λ room. greetings room session conn role reply id now) (room-own all session es known)
-      ∙ ap (λ name. greetings (room_told (filter mine es) name) name conn role reply id now) (sym same)
+      ∙ ap (λ name. greetings (room_told (filter mine es) name) name conn role reply id now)
+      (sym same)
   actions-own es rest id now (Event.Binary conn bytes) parts known own =
       ap (λ peer. forwards peer bytes) (peer-own all session es rest conn parts own known)
   actions-own es rest id now (Event.Gone conn) parts known own =
@@ -48,17 +49,20 @@ module _ (all : List Event) (session : List ℕ) where
       ≡ run_from (filter mine before) (cond b (a ∷ own_arrivals rest) (own_arrivals rest))
   run-if true before a rest done later is same on =
       let more : filter mine (before ++ a.event ∷ []) ≡ filter mine before ++ a.event ∷ [] =
-      filter-append mine before (a.event ∷ []) ∙ ap (λ b. filter mine before ++ cond b (a.event ∷ []) []) is in
+      filter-append mine before (a.event ∷ [])
+      ∙ ap (λ b. filter mine before ++ cond b (a.event ∷ []) []) is in
       (λ i. (a, same refl i) ∷ later)
       ∙ ap (λ r. (a, actions (filter mine before) a.id a.now a.event) ∷ r)
       (on ∙ ap (λ es. run_from es (own_arrivals rest)) more)
   run-if false before a rest done later is same on =
       let less : filter mine (before ++ a.event ∷ []) ≡ filter mine before =
-      filter-append mine before (a.event ∷ []) ∙ ap (λ b. filter mine before ++ cond b (a.event ∷ []) []) is
+      filter-append mine before (a.event ∷ [])
+      ∙ ap (λ b. filter mine before ++ cond b (a.event ∷ []) []) is
       ∙ append-nil (filter mine before) in
       on ∙ ap (λ es. run_from es (own_arrivals rest)) less
 
-  known-push : (before : List Event) (e : Event) → AllByRecursion (IsKnown all) before → IsKnown all e
+  known-push : (before : List Event) (e : Event) → AllByRecursion (IsKnown all) before
+      → IsKnown all e
       → AllByRecursion (IsKnown all) (before ++ e ∷ [])
   known-push [] e known is = (is, tt)
   known-push (x ∷ before) e known is = (known.0, known-push before e known.1 is)
@@ -72,5 +76,6 @@ module _ (all : List Event) (session : List ℕ) where
       run-if (mine a.event) before a arrivals (actions before a.id a.now a.event)
       (filter is_mine (run_from (before ++ a.event ∷ []) arrivals)) refl
       (actions-own before (a.event ∷ events_of arrivals) a.id a.now a.event parts known)
-      (run-own (before ++ a.event ∷ []) arrivals (append_assoc before (a.event ∷ []) (events_of arrivals) ∙ parts)
+      (run-own (before ++ a.event ∷ []) arrivals
+      (append_assoc before (a.event ∷ []) (events_of arrivals) ∙ parts)
       (known-push before a.event known rest.0) rest.1)

@@ -1,11 +1,11 @@
 -- Where each connection of a list of events was let in, if none was twice.
-use Rattle.std.proofs.Common.{◌≡◌, ℕ, Bool, true, false, cond, nat_eq, Option, Some, None, List, [], ◌∷◌, ◌++◌, sym, ap, ◌∙◌, refl, append_assoc, append-nil}
+use Rattle.std.proofs.Common.{◌≡◌, ℕ, Bool, true, false, cond, nat_eq, Some, None, List, [], ◌∷◌, ◌++◌, sym, ap, ◌∙◌, refl, append_assoc, append-nil}
 use Rattle.std.specs.List.{AllByRecursion, IsDistinct, cons_option, filter_map, slice_get}
 use Rattle.std.proofs.lemmas.Bool.{eq-eqb}
 use Rattle.chan_values.specs.declared.side.Side.{Side}
 use Rattle.relay_core.specs.declared.event.Event.{Event}
 use Rattle.relay_core.specs.declared.place.Place.{Place}
-use Rattle.relay_core.specs.Forwarding.{AreNew, opening, openings, place, place_of, place_opened}
+use Rattle.relay_core.specs.Forwarding.{AreNew, openings, place, place_of, place_opened}
 use Rattle.relay_core.proofs.EventLemmas.{place_of-stays}
 
 -- what was so stays so

@@ -26,7 +26,8 @@ module _ (all : List Event) (session : List ℕ) where
   skip-bool false x y h = sym (ap (λ v. v || y) (h refl))
 
   any-if : (b : Bool) (e : Event) (kept : List Event)
-      → list_any (ends session) (cond b (e ∷ kept) kept) ≡ cond b (ends session e || list_any (ends session) kept) (list_any (ends session) kept)
+      → list_any (ends session) (cond b (e ∷ kept) kept)
+      ≡ cond b (ends session e || list_any (ends session) kept) (list_any (ends session) kept)
   any-if true e kept = refl
   any-if false e kept = refl
 
@@ -48,9 +49,12 @@ module _ (all : List Event) (session : List ℕ) where
   abbrev pub IsHeld : Option ℕ → Type 0
   IsHeld held = (conn : ℕ) → held ≡ Some conn → is_in session (place_of all conn) ≡ true
 
-  held-if : (b : Bool) (conn : ℕ) (held : Option ℕ) → (b ≡ true → is_in session (place_of all conn) ≡ true)
+  held-if : (b : Bool) (conn : ℕ) (held : Option ℕ)
+      → (b ≡ true → is_in session (place_of all conn) ≡ true)
       → IsHeld held → IsHeld (cond b (Some conn) held)
-  held-if true conn held here later c is = let same : conn ≡ c = cc in ap (λ x. is_in session (place_of all x)) (sym same) ∙ here refl
+  held-if true conn held here later c is =
+      let same : conn ≡ c = cc in
+      ap (λ x. is_in session (place_of all x)) (sym same) ∙ here refl
   held-if false conn held here later c is = later c is
 
   held-unless : (b : Bool) (held : Option ℕ) → IsHeld held → IsHeld (cond b None held)
@@ -61,7 +65,8 @@ module _ (all : List Event) (session : List ℕ) where
       → IsHeld (held_after session role held e)
   held-after role held (Event.Opened conn s r reply) known is =
       held-if (same_name s session && same_side r role) conn held
-      (λ both. ap (is_in session) known ∙ (and_parts (same_name s session) (same_side r role) both).0) is
+      (λ both.
+      ap (is_in session) known ∙ (and_parts (same_name s session) (same_side r role) both).0) is
   held-after role held (Event.Binary conn bytes) known is = is
   held-after role held (Event.Gone conn) known is = held-unless (is_conn conn held) held is
   held-after role held (Event.EndSession s) known is = is
@@ -72,7 +77,8 @@ module _ (all : List Event) (session : List ℕ) where
   not-conn conn (Some c) not is = by (nat_eq c conn) (λ same. eqb-true c conn same)
     where
       by : (b : Bool) → (b ≡ true → c ≡ conn) → b ≡ false
-      by true same = let e = ap (λ x. is_in session (place_of all x)) (same refl) in cc (e, not, is c refl)
+      by true same =
+          let e = ap (λ x. is_in session (place_of all x)) (same refl) in cc (e, not, is c refl)
       by false same = refl
 
   -- another session's event leaves what is held
@@ -98,20 +104,25 @@ module _ (all : List Event) (session : List ℕ) where
       → IsHeld held → IsHeld (fold (held_after session role) held es)
   fold-inside role held [] known is = is
   fold-inside role held (e ∷ es) known is =
-      fold-inside role (held_after session role held e) es known.1 (held-after role held e known.0 is)
+      fold-inside role (held_after session role held e) es known.1
+      (held-after role held e known.0 is)
 
-  fold-own : (role : Side) (held : Option ℕ) (es : List Event) → AllByRecursion (IsKnown all) es → IsHeld held
-      → fold (held_after session role) held (filter mine es) ≡ fold (held_after session role) held es
+  fold-own : (role : Side) (held : Option ℕ) (es : List Event) → AllByRecursion (IsKnown all) es
+      → IsHeld held
+      → fold (held_after session role) held (filter mine es)
+      ≡ fold (held_after session role) held es
   fold-own role held [] known is = refl
   fold-own role held (e ∷ es) known is =
       fold-if role (mine e) held e es (filter mine es) (leaves role held e is)
-      (fold-own role (held_after session role held e) es known.1 (held-after role held e known.0 is))
+      (fold-own role (held_after session role held e) es known.1
+      (held-after role held e known.0 is))
 
   pub held-own : (role : Side) (es : List Event) → AllByRecursion (IsKnown all) es
       → last_held (filter mine es) session role ≡ last_held es session role
   held-own role es known =
       last_held-fold session role [] (filter mine es)
-      ∙ ap (λ held. fold (held_after session role) held (filter mine es)) (last_held-nil session role)
+      ∙ ap (λ held. fold (held_after session role) held (filter mine es))
+      (last_held-nil session role)
       ∙ fold-own role None es known (λ conn is. cc)
       ∙ ap (λ held. fold (held_after session role) held es) (sym (last_held-nil session role))
       ∙ sym (last_held-fold session role [] es)
@@ -141,7 +152,8 @@ module _ (all : List Event) (session : List ℕ) where
   current-inside role es known =
       current-by (is_ended es session) (last_held es session role) (held-inside role es known)
 
-  no-place : (conn : ℕ) (e : Event) → is_in session (place_of all conn) ≡ true → IsKnown all e → mine e ≡ false
+  no-place : (conn : ℕ) (e : Event) → is_in session (place_of all conn) ≡ true → IsKnown all e
+      → mine e ≡ false
       → place_opened conn e ≡ None
   no-place conn (Event.Opened c s r reply) own known not =
       ap (λ b. cond b (Some (place s r)) None) (by (nat_eq c conn) (λ same. eqb-true c conn same))
@@ -159,7 +171,8 @@ module _ (all : List Event) (session : List ℕ) where
   places-if : (conn : ℕ) (b : Bool) (e : Event) (kept : List Event) (found : List Place)
       → (b ≡ false → place_opened conn e ≡ None)
       → filter_map (place_opened conn) kept ≡ found
-      → filter_map (place_opened conn) (cond b (e ∷ kept) kept) ≡ cons_option (place_opened conn e) found
+      → filter_map (place_opened conn) (cond b (e ∷ kept) kept)
+      ≡ cons_option (place_opened conn e) found
   places-if conn true e kept found none is = ap (cons_option (place_opened conn e)) is
   places-if conn false e kept found none is = is ∙ ap (λ p. cons_option p found) (sym (none refl))
 
@@ -185,7 +198,8 @@ module _ (all : List Event) (session : List ℕ) where
       ∙ ap (across conn q.role) (room-own es known)
       ∙ ap (λ name. across conn q.role (room_told (filter mine es) name)) (sym (named q refl))
 
-  pub in-name : (p : Option Place) (q : Place) → is_in session p ≡ true → p ≡ Some q → q.session ≡ session
+  pub in-name : (p : Option Place) (q : Place) → is_in session p ≡ true → p ≡ Some q
+      → q.session ≡ session
   in-name p q own is = same_name-true q.session session (ap (is_in session) (sym is) ∙ own)
 
   pub peer-own : (es rest : List Event) (conn : ℕ) → es ++ rest ≡ all

@@ -1,5 +1,5 @@
 -- The peer of a connection, as it is found in what is kept.
-use Rattle.std.proofs.Common.{◌≡◌, ℕ, Bool, true, false, cond, Option, Some, None, List, sym, ap, ◌∙◌, refl}
+use Rattle.std.proofs.Common.{◌≡◌, ℕ, false, cond, Option, Some, None, List, sym, ap, ◌∙◌, refl}
 use Rattle.chan_values.specs.declared.side.Side.{Side}
 use Rattle.chan_values.specs.Sides.{other}
 use Rattle.relay_core.specs.declared.event.Event.{Event}

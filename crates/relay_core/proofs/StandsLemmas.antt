@@ -229,7 +229,8 @@ module _ (old new : Kept) (es : List Event) (stands : Stands old es) where
     cleared-other p s false is same back =
         sym (not-its s (λ role placed.
         let one : Some p ≡ Some (place s role) = sym is ∙ placed in
-        let named : p.session ≡ s = ap (λ (o : Place). o.session) (some-same p (place s role) one) in
+        let named : p.session ≡ s =
+        ap (λ (o : Place). o.session) (some-same p (place s role) one) in
         let no : false ≡ true = back named in
         cc))
 

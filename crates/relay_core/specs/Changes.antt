@@ -1,5 +1,5 @@
 -- How one event changes what the relay keeps.
-use Rattle.std.specs.Prelude.{◌≡◌, ℕ, Bool, true, false, Option, Some, None, List, if◌then◌else◌}
+use Rattle.std.specs.Prelude.{◌≡◌, ℕ, true, Option, Some, None, List, if◌then◌else◌}
 use Rattle.std.specs.BTreeMap.{is_at}
 use Rattle.std.specs.Cmp.Lexicographic.{slice_cmp}
 use Rattle.std.specs.Ordering.{nat_cmp}

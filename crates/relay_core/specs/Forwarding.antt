@@ -1,5 +1,5 @@
 -- What the relay does, read off the list of its events. Nothing else is kept.
-use Rattle.std.specs.Prelude.{◌≡◌, ℕ, Bool, true, false, ◌&&◌, Option, Some, None, is_none, List, [], ◌∷◌, reverse, take_while, if◌then◌else◌, nat_eq, slice_get}
+use Rattle.std.specs.Prelude.{◌≡◌, ℕ, Bool, false, ◌&&◌, Option, Some, None, is_none, List, reverse, take_while, if◌then◌else◌, nat_eq, slice_get}
 use Rattle.std.specs.List.{filter_map, list_any, IsDistinct}
 use Rattle.chan_values.specs.declared.side.Side.{Side}
 use Rattle.chan_values.specs.declared.side.Side.TheVariants.{Plugin, Agent}

@@ -38,8 +38,8 @@ peer_from rooms conn (Some p) = across conn p.role (room_in rooms p.session)
 abbrev pub peer_in : Kept → ℕ → Option ℕ
 peer_in kept conn = peer_from kept.rooms conn (place_in kept.places conn)
 
--- What is kept is what the events tell: each session's room; of a connection no other place than its
--- own; and the place of each current connection.
+-- What is kept is what the events tell: each session's room; of a connection no other place than
+-- its own; and the place of each current connection.
 pub record Stands (kept : Kept) (es : List Event) : Type 0 where
   pub rooms : (session : List ℕ) → room_in kept.rooms session ≡ room_told es session
   pub places : (conn : ℕ) (p : Place)

@@ -1,15 +1,15 @@
 //! The relay.
 //!
-//! A driver numbers its connections, hands in what happens at them, one event after another, and does
-//! the actions of each answer in order.
+//! A driver numbers its connections, hands in what happens at them, one event after another, and
+//! does the actions of each answer in order.
 //!
 //! ```text
 //!               Opened                  Gone, EndSession, or Opened of another in this role
 //!   let in  ------------>  current  ----------------------------------------------------->  former
 //! ```
 //!
-//! Messages go from a current connection to the current one of the other role of its session. What a
-//! former connection sends is passed over.
+//! Messages go from a current connection to the current one of the other role of its session. What
+//! a former connection sends is passed over.
 
 ghost use Rattle.std.specs.Prelude.{◌≡◌, IfOk, OnOk, OnErr, []};
 ghost use Rattle.relay_core.specs.Rooms.{dismissals, greetings, pauses};
