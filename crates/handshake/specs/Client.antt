@@ -46,7 +46,7 @@ pub record IsCompletion (item : Item) : Type 0 where
   pub complete : HandshakeComplete
   pub body : IsCompleteBody item.payload complete
 
--- why it is refused, by the session that the request is agreed on: whatever it is where there is none
+-- why it is refused, by the session that is agreed on: whatever it is, where there is none
 abbrev pub IsNoCompletion : Option Agreed → Item → Why → Type 0
 IsNoCompletion None item why = why ≡ Why.NoSession
 IsNoCompletion (Some agreed) item why = IsOther 7 (Shows complete_faults) item why

@@ -3,6 +3,7 @@ pub mod AgentState
 pub mod Client
 pub mod ClientState
 pub mod Items
+pub mod Laws
 pub mod Sessions
 pub mod Steps
 pub mod Stops

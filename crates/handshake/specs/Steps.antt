@@ -22,3 +22,8 @@ IsSound step = Unit {0}
 abbrev pub OnNoMemory : Step → Type 0 → Type 0
 OnNoMemory (Step.NoMemory back) P = P
 OnNoMemory step P = Unit {0}
+
+-- there was memory for the step
+abbrev pub IsAnswered : Step → Type 0
+IsAnswered (Step.NoMemory back) = ⊥
+IsAnswered step = Unit {0}

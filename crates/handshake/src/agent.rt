@@ -22,11 +22,11 @@ ghost use Rattle.handshake.specs.declared.agreed.Agreed.{Agreed};
 ghost use Rattle.json_bodies.specs.declared.processed.Processed.{Processed};
 
 use crate::agreed::Agreed;
-use crate::response::SUCCESS;
-use crate::step::{Step, Why};
-use crate::stop::{
-    HANDSHAKE_COMPLETE, HANDSHAKE_REQUEST, HANDSHAKE_RESPONSE, SESSION_ACTION, Stop,
+use crate::code::{
+    HANDSHAKE_COMPLETE, HANDSHAKE_REQUEST, HANDSHAKE_RESPONSE, SESSION_ACTION, SUCCESS,
 };
+use crate::step::{Step, Why};
+use crate::stop::Stop;
 use chan_values::{Bytes, Item, NoMemory, Text};
 use json_bodies::laws::completions_are_short;
 use json_bodies::{

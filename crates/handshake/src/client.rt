@@ -20,9 +20,10 @@ ghost use Rattle.json_bodies.specs.HandshakeComplete.{complete_faults};
 ghost use Rattle.json_bodies.specs.Reading.{Shows};
 
 use crate::agreed::Agreed;
+use crate::code::HANDSHAKE_COMPLETE;
 use crate::response::reply_to;
 use crate::step::{Step, Why};
-use crate::stop::{HANDSHAKE_COMPLETE, Stop};
+use crate::stop::Stop;
 use chan_values::{Item, Text};
 use json_bodies::HandshakeComplete;
 use std::alloc::Global;

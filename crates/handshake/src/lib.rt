@@ -18,6 +18,7 @@
 mod agent;
 mod agreed;
 mod client;
+mod code;
 pub mod laws;
 mod response;
 mod step;

@@ -8,20 +8,15 @@ ghost use Rattle.handshake.specs.Stops.{IfRefused};
 ghost use Rattle.json_bodies.specs.declared.handshake_request.HandshakeRequest.{HandshakeRequest};
 
 use crate::agreed::{Agreed, SessionType};
+use crate::code::{HANDSHAKE_REQUEST, HANDSHAKE_RESPONSE, SESSION_ACTION, SUCCESS, UNSUPPORTED};
 use crate::step::Why;
-use crate::stop::{HANDSHAKE_REQUEST, HANDSHAKE_RESPONSE, SESSION_ACTION, Stop};
+use crate::stop::Stop;
 use chan_values::{Bytes, Item, MAX_PAYLOAD, NoMemory, Text};
 use json_bodies::{
     Action, BodyFault, HandshakeRequest, HandshakeResponse, Member, Processed, ProcessedActions,
     Sequence,
 };
 use std::alloc::Global;
-
-/// ActionStatus: the action succeeded.
-pub(crate) const SUCCESS: u8 = 1;
-
-/// ActionStatus: the action is not supported.
-const UNSUPPORTED: u8 = 3;
 
 /// Error of an action that is not supported.
 const UNSUPPORTED_TEXT: &str = "Unsupported";

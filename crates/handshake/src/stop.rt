@@ -1,20 +1,8 @@
-//! Why the answer to an item is no item, and the types of the items.
+//! Why the answer to an item is no item.
 
 use crate::step::Why;
 use chan_values::NoMemory;
 use json_bodies::BodyFault;
-
-/// PayloadType of a handshake request.
-pub(crate) const HANDSHAKE_REQUEST: u32 = 5;
-
-/// PayloadType of a handshake response.
-pub(crate) const HANDSHAKE_RESPONSE: u32 = 6;
-
-/// PayloadType of the end of a handshake.
-pub(crate) const HANDSHAKE_COMPLETE: u32 = 7;
-
-/// ActionType of the action that begins a session.
-pub(crate) const SESSION_ACTION: &str = "SessionType";
 
 /// Why the answer to an item is no item.
 #[derive(Debug, Drop)]

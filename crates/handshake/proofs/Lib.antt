@@ -1,0 +1,3 @@
+pub mod AgentLemmas
+pub mod BodyLemmas
+pub mod ClientLemmas
