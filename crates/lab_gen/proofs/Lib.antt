@@ -1,0 +1,5 @@
+pub mod LatestLemmas
+pub mod EndsLemmas
+pub mod CountLemmas
+pub mod RunLemmas
+pub mod LawLemmas
