@@ -1,16 +1,15 @@
 -- What an end tells of itself is how much was put in and released.
-use Rattle.std.proofs.Common.{◌≡◌, ℕ, ◌+◌, ◌-◌, ◌<◌, ◌≤◌, zero, suc, ◌⊎◌, ⊎_elim, true, Option, Some, List, [], ◌∷◌, ◌++◌, length, refl, sym, ap, ◌∙◌, arith}
+use Rattle.std.proofs.Common.{◌≡◌, ℕ, ◌+◌, ◌-◌, ◌<◌, ◌≤◌, zero, suc, ⊎_elim, Option, Some, List, length, refl, sym, ap, ◌∙◌, arith}
 use Rattle.std.specs.List.{filter_map, range_with_len}
 use Rattle.std.proofs.lemmas.List.{length-map}
 use Rattle.chan_values.specs.declared.item.Item.{Item}
-use Rattle.receive_window.specs.Window.{item_with}
 use Rattle.channel_core.specs.declared.call.EndAnswer.{EndAnswer}
 use Rattle.channel_core.specs.declared.call.EndCall.{EndCall}
 use Rattle.channel_core.specs.declared.answer.Look.{Look}
 use Rattle.channel_core.specs.Call.{Entry}
 use Rattle.channel_core.specs.History.{next_in_order, put_items, put_messages, released_items, taken_items}
 use Rattle.channel_core.specs.Legal.{IsLegal, look_at}
-use Rattle.channel_core.specs.Numbers.{has_number, numbers_of}
+use Rattle.channel_core.specs.Numbers.{numbers_of}
 use Rattle.channel_core.specs.Stands.{EndState, Follows, Stands}
 use Rattle.channel_core.proofs.DeliveryLemmas.{released_is_in_order}
 use Rattle.channel_core.proofs.ItemLemmas.{item_with-there}
@@ -34,12 +33,12 @@ length-released : (w : ℕ) (h : List Entry) → IsLegal w h
 length-released w h legal =
     let taken = taken_items h in
     let next = next_in_order h in
-    let each : length (filter_map (item_with taken) (range_with_len 0 (next - 0))) ≡ next - 0 =
-    length-each (item_with taken) 0 (next - 0)
+    ap (λ (xs : List Item). length xs) (released_is_in_order w h legal)
+    ∙ length-each _ 0 (next - 0)
     (λ k low high.
     let below : k < next = omega (arith, high) in
-    item_with-there taken k ((least_absent-is (numbers_of taken)).1 k below)) in
-    ap (λ (xs : List Item). length xs) (released_is_in_order w h legal) ∙ each ∙ omega arith
+    item_with-there taken k ((least_absent-is (numbers_of taken)).1 k below))
+    ∙ omega arith
 
 -- an end answers a look with what its history tells
 looked : (w : ℕ) (h : List Entry) (end : EndState) (look : Look)

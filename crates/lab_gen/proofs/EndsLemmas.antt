@@ -1,5 +1,5 @@
 -- Both ends after a step, and after the steps of a pass.
-use Rattle.std.proofs.Common.{◌≡◌, ℕ, zero, suc, Bool, true, false, List, [], ◌∷◌, ◌++◌, refl, sym, ap, subst, ◌∙◌, append-nil}
+use Rattle.std.proofs.Common.{◌≡◌, ℕ, zero, suc, true, false, List, [], ◌∷◌, ◌++◌, refl, sym, ap, subst, ◌∙◌, append-nil}
 use Rattle.chan_values.specs.declared.side.Side.{Side}
 use Rattle.chan_values.specs.declared.side.Side.TheVariants.{Plugin, Agent}
 use Rattle.chan_values.specs.Sides.{other}
@@ -89,7 +89,7 @@ pub record Passes (w all : ℕ) (world : List Event) (now line : ℕ) (side : Si
   pub rest :
       world ++ events_of (pass_steps all w world now line side)
       ≡ so_far ++ events_of (pass_steps left w so_far now line side)
-  pub ends : IsEnds w so_far ends
+  pub reached : IsEnds w so_far ends
 
 -- at first no turn was made
 pub Passes-start : (w all : ℕ) (world : List Event) (now line : ℕ) (side : Side) (left : ℕ)
@@ -101,7 +101,7 @@ Passes-start w all world now line side left ends is started =
     record {
       so_far = world;
       rest = ap (λ n. world ++ events_of (pass_steps n w world now line side)) is;
-      ends = started;
+      reached = started;
     }
 
 -- what a pass leaves, where this many turns are left
@@ -147,7 +147,7 @@ Passes-turn w all world now line side there n left old new is across p emits end
           (pass_steps-emits left w so_far now line side emits)
           ∙ sym (world-then so_far turn (rest (so_far ++ events_of turn)))
           ∙ ap (λ (v : List Event). v ++ events_of (rest v)) turned;
-      ends = ends;
+      reached = ends;
     }
 
 -- the turn at which the end was idle is the last
@@ -189,4 +189,4 @@ Passes-over w all world now line side n ends is p =
     (λ (t : List Step). so_far ++ events_of t)
     (pass_steps-none w so_far now line side)
     ∙ append-nil so_far))
-    p.ends
+    p.reached

@@ -1,9 +1,5 @@
 -- What holds of every generated script.
-use Rattle.std.specs.Prelude.{◌≡◌, ◌≢◌, ℕ, ◌^◌, ◌<◌, ◌≤◌, List, All}
-use Rattle.chan_values.specs.declared.side.Side.{Side}
-use Rattle.chan_values.specs.Sides.{other}
-use Rattle.channel_core.specs.History.{put_items, released_items}
-use Rattle.channel_core.specs.World.{history_of}
+use Rattle.std.specs.Prelude.{◌≡◌, ◌≢◌, ℕ, ◌≤◌, List, All}
 use Rattle.lab_run.specs.Run.{run}
 use Rattle.lab_run.specs.Steps.{Step, world_of}
 use Rattle.lab_script.specs.Command.{IsCommand}

@@ -1,6 +1,5 @@
-use Rattle.std.proofs.Common.{◌≡◌, length, refl}
+use Rattle.std.proofs.Common.{refl}
 use Rattle.chan_values.specs.declared.side.Side.TheVariants.{Plugin, Agent}
-use Rattle.channel_core.specs.History.{put_items, released_items}
 use Rattle.channel_core.specs.World.{history_of}
 use Rattle.lab_gen.proofs.CountLemmas.{put_by, released_by}
 use Rattle.lab_gen.proofs.ends.Ends.counts.Goals as goal

@@ -1,4 +1,4 @@
-use Rattle.std.proofs.Common.{◌≡◌, ℕ, ◌+◌, ◌*◌, ◌-◌, ◌<◌, suc, zero, List, [], ◌∷◌, ◌++◌, true, false, arith}
+use Rattle.std.proofs.Common.{◌≡◌, ℕ, ◌+◌, ◌*◌, ◌-◌, ◌<◌, suc, zero, [], ◌∷◌, ◌++◌, true, false, arith}
 use Rattle.channel_core.specs.declared.call.EndCall.TheVariants as EndCall
 use Rattle.lab_script.specs.declared.verb.Verb.TheVariants as Verb
 use Rattle.lab_run.specs.Outcomes.{is_emission}
@@ -24,12 +24,12 @@ turns-preserved c world is =
     let p = c.turns.invariant world is in
     let pulled = called w p.so_far line Verb.Pull c.args.side (EndCall.Pull now) in
     let told : c.in_ok-step.field-0 ≡ is_emission pulled.outcome =
-    c.in_ok-step.ensures.told w p.so_far p.ends in
+    c.in_ok-step.ensures.told w p.so_far p.reached in
     let emits : is_emission pulled.outcome ≡ true = cc in
     Passes-turn w all world now line c.args.side _ _ _ _ _
     (left_after all c.turns.counter (omega arith)) c.other.ensures p emits
     (c.in_ok-step-2.ensures.made w (p.so_far ++ events_of (pulled ∷ []))
-    (c.in_ok-step.ensures.made w p.so_far p.ends))
+    (c.in_ok-step.ensures.made w p.so_far p.reached))
 
 -- the end was idle
 pub returns-then-not-branch : goal.returns-then-not-branch
@@ -41,11 +41,11 @@ returns-then-not-branch c world is =
     let p = c.turns.invariant world is in
     let pulled = called w p.so_far line Verb.Pull c.args.side (EndCall.Pull now) in
     let told : c.in_ok-step.field-0 ≡ is_emission pulled.outcome =
-    c.in_ok-step.ensures.told w p.so_far p.ends in
+    c.in_ok-step.ensures.told w p.so_far p.reached in
     let idle : is_emission pulled.outcome ≡ false = cc in
     Passes-idle w all world now line c.args.side _ _ _ _
     (left_after all c.turns.counter (omega arith)) p idle
-    (c.in_ok-step.ensures.made w p.so_far p.ends)
+    (c.in_ok-step.ensures.made w p.so_far p.reached)
 
 -- all turns were made
 pub returns : goal.returns

@@ -1,4 +1,4 @@
-use Rattle.std.proofs.Common.{◌≡◌, ◌∙◌, ℕ, List, Some, None, Result, Ok, IfOk, sym, refl}
+use Rattle.std.proofs.Common.{◌≡◌, ◌∙◌, ℕ, List, Result, Ok, IfOk, sym, refl}
 use Rattle.chan_values.specs.declared.no_memory.NoMemory.{NoMemory}
 use Rattle.chan_values.specs.declared.side.Side.{Side}
 use Rattle.chan_values.specs.Sides.{other}
@@ -70,10 +70,11 @@ returns-in-Open c w world legal here there =
 pub returns-in-Some : goal.returns-in-Some
 returns-in-Some c w world legal here there =
     let far = other c.args.side in
-    let e : IsEmission far (emissions (history_of far world)) Which.Last c.in-Some.bytes.now =
-    IsEmission-found far there.sent _ Which.Last c.in-Some.bytes.now there.done.encoded
-    there.done.sendable ? in
-    rw (c.in-Hear.is, ?, e.found)
+    let last : c.in-Hear.which ≡ Which.Last = rw c.in-Hear.is at c.requires in
+    let e : IsEmission far (emissions (history_of far world)) Which.Last c.in-Some.bytes =
+    IsEmission-found far there.sent _ Which.Last c.in-Some.bytes there.done.encoded
+    there.done.sendable (sym c.in-Some.is ∙ there.kept) in
+    rw (c.in-Hear.is, last, e.found)
     (made w world c.args.context.now verbs.Hear c.args.side
     (EndCall.Heard c.args.context.now.moment (incoming_of e.out))
     c.args.self.now _ c.hear.result legal here
@@ -81,9 +82,10 @@ returns-in-Some c w world legal here there =
 
 pub returns-in-None : goal.returns-in-None
 returns-in-None c w world legal here there =
+    let last : c.in-Hear.which ≡ Which.Last = rw c.in-Hear.is at c.requires in
     let none =
     emission_at-none (other c.args.side) there.sent _ Which.Last there.done.encoded
-    ? in
-    rw (c.in-Hear.is, ?, none)
+    (sym c.in-None.is ∙ there.kept) in
+    rw (c.in-Hear.is, last, none)
     (MakesLatest-absent w world c.args.context.now.moment c.args.context.now.line c.args.side
     c.args.self.now here)

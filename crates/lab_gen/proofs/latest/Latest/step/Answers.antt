@@ -1,4 +1,4 @@
-use Rattle.std.proofs.Common.{◌≡◌, ◌∙◌}
+use Rattle.std.proofs.Common.{◌∙◌}
 use Rattle.lab_run.specs.Steps.{step_of}
 use Rattle.lab_run.proofs.RightLemmas.{IsOf-step_of}
 use Rattle.lab_gen.proofs.LatestLemmas.{IsLatest-kept}
