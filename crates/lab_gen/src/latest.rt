@@ -80,7 +80,7 @@ impl Latest {
         let alloc = context.alloc;
         let now = context.moment;
         match action {
-            Action::Put { item } => calls::put(&mut self.end, item, context.line, now),
+            Action::Put { item } => Ok(calls::put(&mut self.end, item, context.line, now)),
             // No line tells the number of an emission.
             Action::Pull => calls::pull(alloc, side, &mut self.end, 0, now),
             Action::Tick => Ok(calls::tick(&mut self.end, now)),

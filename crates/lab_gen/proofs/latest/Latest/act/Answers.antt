@@ -37,7 +37,7 @@ returns-in-Put c w world legal here there =
     rw c.in-Put.is
     (made w world c.args.context.now verbs.Put c.args.side
     (EndCall.Put c.in-Put.item (id_of c.args.context.now.line) c.args.context.now.moment)
-    c.args.self.now _ c.put.result legal here (c.put.ensures _ _))
+    c.args.self.now _ (Ok c.put.result) legal here (c.put.ensures _ _))
 
 pub returns-in-Pull : goal.returns-in-Pull
 returns-in-Pull c w world legal here there =
