@@ -1,9 +1,8 @@
 //! What the relay does.
 
-ghost use Rattle.std.specs.Prelude.{◌≡◌, []};
+ghost use Rattle.std.specs.Prelude.{◌≡◌};
 
 use chan_values::Bytes;
-use std::alloc::Global;
 use std::marker::Model;
 
 /// One action at a connection, by its number.
@@ -38,15 +37,6 @@ impl Actions {
         ensures { result ≡ actions.items }
     {
         Actions { actions }
-    }
-
-    /// No actions.
-    pub fn none(alloc: Global) -> Actions
-        ensures { result ≡ [] }
-    {
-        Actions {
-            actions: Vec::new(alloc),
-        }
     }
 
     /// The vector of the actions.
