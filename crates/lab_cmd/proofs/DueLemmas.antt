@@ -1,10 +1,11 @@
 -- There is one status that the words and the bytes that are left call for.
-use Rattle.std.proofs.Common.{◌≡◌, ℕ, ◌+◌, ◌<◌, ◌≤◌, ⊎_elim, zero, suc, List, [], ◌∷◌, ◌++◌, length, take, refl, sym, ap, subst, ◌∙◌, append_assoc, arith}
+use Rattle.std.proofs.Common.{◌≡◌, ℕ, ◌+◌, ◌<◌, ◌≤◌, ⊎_elim, zero, suc, Option, Some, None, List, [], ◌∷◌, ◌++◌, length, take, refl, sym, ap, subst, ◌∙◌, append_assoc, arith}
 use Rattle.std.proofs.Math.Seq.{take-nil}
+use Rattle.agent_message.proofs.CaptureLaws.{one_reading}
 use Rattle.lab_script.specs.Lines.{lines_of}
 use Rattle.lab_cmd.specs.declared.status.Status.{Status}
 use Rattle.lab_cmd.specs.declared.words.Mode.{Mode}
-use Rattle.lab_cmd.specs.Meanings.{IsDue, IsDueIn}
+use Rattle.lab_cmd.specs.Meanings.{HasBadLine, IsDue, IsDueIn, Outputs}
 use Rattle.lab_cmd.specs.Words.{Begins, IsWords, IsWordsFault}
 use Rattle.lab_cmd.proofs.ScriptLemmas.{IsFirstBad-unique, not_both}
 use Rattle.lab_cmd.proofs.WordLemmas.{IsWords-unique}
@@ -57,29 +58,51 @@ IsWordsFault-unique words k m a b =
     let right : ¬ (m < k) = earlier words m k b a in
     omega (arith, left, right)
 
+-- an input has one output, with one status
+Outputs-unique : (mode : Mode) (input : List ℕ) (a b : Status) (s t : List ℕ)
+    → Outputs mode input a s → Outputs mode input b t → a ≡ b
+Outputs-unique (Mode.Plain window) input Status.Ok Status.Ok s t x y = refl
+Outputs-unique (Mode.Plain window) input Status.Ok _ s t x y = absurd y
+Outputs-unique (Mode.Plain window) input _ _ s t x y = absurd x
+Outputs-unique Mode.Show input Status.Ok Status.Ok s t x y = refl
+Outputs-unique Mode.Show input Status.Ok (Status.BadCapture fault) s t x y =
+    let same = one_reading input x.0 y.0 None (Some fault) x.1 y.1 in absurd (cc (same.1))
+Outputs-unique Mode.Show input (Status.BadCapture fault) Status.Ok s t x y =
+    let same = one_reading input x.0 y.0 (Some fault) None x.1 y.1 in absurd (cc (same.1))
+Outputs-unique Mode.Show input (Status.BadCapture fault) (Status.BadCapture other) s t x y =
+    let same = one_reading input x.0 y.0 (Some fault) (Some other) x.1 y.1 in
+    let faults : fault ≡ other = cc (same.1) in ap Status.BadCapture faults
+Outputs-unique Mode.Show input Status.Ok _ s t x y = absurd y
+Outputs-unique Mode.Show input (Status.BadCapture fault) _ s t x y = absurd y
+Outputs-unique Mode.Show input _ _ s t x y = absurd x
+
+-- it has no line out of the grammar then
+no_bad_line : (mode : Mode) (input : List ℕ) (n : ℕ) (status : Status) (text : List ℕ)
+    → HasBadLine mode n input → Outputs mode input status text → ⊥
+no_bad_line (Mode.Plain window) input n Status.Ok text bad x = not_both n x.0 input x.1 bad
+no_bad_line (Mode.Plain window) input n _ text bad x = x
+no_bad_line Mode.Show input n status text bad x = bad
+
+-- there is one line that is the first out of the grammar
+HasBadLine-unique : (mode : Mode) (input : List ℕ) (n m : ℕ)
+    → HasBadLine mode n input → HasBadLine mode m input → n ≡ m
+HasBadLine-unique (Mode.Plain window) input n m x y = IsFirstBad-unique n m (lines_of input) x y
+HasBadLine-unique Mode.Show input n m x y = absurd x
+
 -- a mode and the bytes that are left call for one status
 IsDueIn-unique : (mode : Mode) (left : List ℕ) (a b : Status)
     → IsDueIn mode left a → IsDueIn mode left b → a ≡ b
-IsDueIn-unique (Mode.Plain window) left Status.Ok Status.Ok x y = refl
-IsDueIn-unique (Mode.Plain window) left Status.Ok (Status.Script n) x y =
-    absurd (not_both n x.0 left x.2 y.1)
-IsDueIn-unique (Mode.Plain window) left Status.Ok Status.TooLong x y =
-    absurd (omega (arith, x.1, y))
-IsDueIn-unique (Mode.Plain window) left (Status.Script n) Status.Ok x y =
-    absurd (not_both n y.0 left y.2 x.1)
-IsDueIn-unique (Mode.Plain window) left (Status.Script n) (Status.Script m) x y =
-    ap Status.Script (IsFirstBad-unique n m (lines_of left) x.1 y.1)
-IsDueIn-unique (Mode.Plain window) left (Status.Script n) Status.TooLong x y =
-    absurd (omega (arith, x.0, y))
-IsDueIn-unique (Mode.Plain window) left Status.TooLong Status.Ok x y =
-    absurd (omega (arith, x, y.1))
-IsDueIn-unique (Mode.Plain window) left Status.TooLong (Status.Script n) x y =
-    absurd (omega (arith, x, y.0))
-IsDueIn-unique (Mode.Plain window) left Status.TooLong Status.TooLong x y = refl
-IsDueIn-unique (Mode.Plain window) left Status.Ok _ x y = absurd y
-IsDueIn-unique (Mode.Plain window) left (Status.Script n) _ x y = absurd y
-IsDueIn-unique (Mode.Plain window) left Status.TooLong _ x y = absurd y
-IsDueIn-unique (Mode.Plain window) left _ _ x y = absurd x
+IsDueIn-unique mode left Status.TooLong Status.TooLong x y = refl
+IsDueIn-unique mode left Status.TooLong _ x y = absurd (omega (arith, x, y.0))
+IsDueIn-unique mode left (Status.Script n) (Status.Script m) x y =
+    ap Status.Script (HasBadLine-unique mode left n m x.1 y.1)
+IsDueIn-unique mode left (Status.Script n) Status.TooLong x y = absurd (omega (arith, x.0, y))
+IsDueIn-unique mode left (Status.Script n) b x y =
+    absurd (no_bad_line mode left n b y.1.0 x.1 y.1.1)
+IsDueIn-unique mode left _ Status.TooLong x y = absurd (omega (arith, x.0, y))
+IsDueIn-unique mode left a (Status.Script n) x y =
+    absurd (no_bad_line mode left n a x.1.0 y.1 x.1.1)
+IsDueIn-unique mode left a b x y = Outputs-unique mode left a b x.1.0 y.1.0 x.1.1 y.1.1
 
 -- so do the words and the bytes
 by_mode : (words : List (List ℕ)) (left : List ℕ) (a b : Status) (m n : Mode)

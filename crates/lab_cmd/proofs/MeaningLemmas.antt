@@ -1,18 +1,27 @@
 -- What a status means, and which status is due.
-use Rattle.std.proofs.Common.{◌≡◌, ◌≢◌, ℕ, ◌<◌, ◌≤◌, ◌⊎◌, inl, inr, Option, Some, List, length, refl, sym, subst}
+use Rattle.std.proofs.Common.{◌≡◌, ◌≢◌, ℕ, ◌<◌, ◌≤◌, ◌⊎◌, inl, inr, Option, Some, None, List, [], ◌++◌, length, refl, sym, subst, ◌∙◌, arith, append-nil}
+use Rattle.agent_message.specs.Captures.{IsCapture}
+use Rattle.agent_message.specs.declared.capture_fault.CaptureFault.{CaptureFault}
+use Rattle.agent_message.specs.declared.message.Message.{Message}
 use Rattle.chan_io.specs.Sources.{Input}
 use Rattle.chan_io.specs.Faults.{Rises}
-use Rattle.chan_io.specs.Sinks.{Writes, WritesPart}
+use Rattle.chan_io.specs.Sinks.{Output, Writes, WritesPart}
+use Rattle.lab_run.specs.Printing.{IsPrinted, Stops, Printout}
 use Rattle.lab_run.specs.Run.{report, run}
 use Rattle.lab_run.specs.declared.stop.Stop.{Stop}
+use Rattle.lab_script.specs.declared.command.Command.{Command}
+use Rattle.lab_show.specs.Lines.{show_lines}
+use Rattle.lab_show.specs.Listings.{Shows, ShowsPart}
+use Rattle.lab_show.specs.declared.stop.ShowStop.{ShowStop}
 use Rattle.lab_cmd.specs.declared.input.InputFault.{InputFault}
 use Rattle.lab_cmd.specs.declared.script.ScriptFault.{ScriptFault}
 use Rattle.lab_cmd.specs.declared.status.Status.{Status}
 use Rattle.lab_cmd.specs.declared.words.Mode.{Mode}
 use Rattle.lab_cmd.specs.Inputs.{IsLonger, ReadToEnd, max_input}
-use Rattle.lab_cmd.specs.Meanings.{IsDue, Means, Outside, ReadsBadLine, ReadsScript, Reports, ReportsPart}
-use Rattle.lab_cmd.specs.Statuses.{status_of_input, status_of_script, status_of_stop}
-use Rattle.lab_cmd.specs.Words.{IsWords, window_of}
+use Rattle.lab_cmd.specs.Meanings.{HasBadLine, IsDue, IsDueIn, Means, MeansRead, Outputs, Outside, ReadsInput, WritesFront}
+use Rattle.lab_cmd.specs.Script.{IsScript}
+use Rattle.lab_cmd.specs.Statuses.{status_of_input, status_of_script, status_of_show, status_of_stop}
+use Rattle.lab_cmd.specs.Words.{IsWords}
 use Rattle.lab_cmd.proofs.DueLemmas.{IsDue-unique}
 
 -- what was read to the end is what was left
@@ -26,18 +35,6 @@ left_from_read input before told after is read =
 pub longer_from_told : (most : ℕ) (told : Option Input) (before : Input)
     → told ≡ Some before → IsLonger most told → most < length before.left
 longer_from_told most told before is longer = subst (IsLonger most) is longer
-
--- ---- what was written in a mode
-
-pub Reports-window : (mode : Mode) (old new : Outside) (s : ReadsScript old.input new.input)
-    → Writes (report (run (window_of mode) s.commands)) old.output new.output
-    → Reports mode old new
-Reports-window (Mode.Plain window) old new s writes = (s, writes)
-
-pub ReportsPart-window : (mode : Mode) (old new : Outside) (s : ReadsScript old.input new.input)
-    → WritesPart (report (run (window_of mode) s.commands)) old.output new.output
-    → ReportsPart mode old new
-ReportsPart-window (Mode.Plain window) old new s part = (s, part)
 
 -- ---- the status of a fault means what it says
 
@@ -56,27 +53,153 @@ Means-input mode InputFault.TooLong unwritten old new same failed long steady wr
 Means-input mode InputFault.NoMemory unwritten old new same failed long steady writes =
     (inl same, steady (λ is. cc), writes)
 
--- of an input that is no script
-pub Means-script : (mode : Mode) (fault : ScriptFault) (unwritten : Type 0) (old new : Outside)
-    → unwritten
-    → ((n : ℕ) → fault ≡ ScriptFault.Line n → ReadsBadLine n old.input new.input)
+-- what was done with an input that was read means what it says
+pub Means-read : (mode : Mode) (input : List ℕ) (status : Status) (unwritten : Type 0)
+    (old new : Outside)
+    → ReadsInput input old.input new.input
     → new.reads_failed ≡ old.reads_failed
-    → new.writes_failed ≡ old.writes_failed
-    → Means mode (status_of_script fault) unwritten old new
-Means-script mode (ScriptFault.Line n) unwritten old new same bad reads writes = (same, bad n refl)
-Means-script mode ScriptFault.NoMemory unwritten old new same bad reads writes =
-    (inl same, reads, writes)
+    → MeansRead mode input status unwritten old.output old.writes_failed new.output
+    new.writes_failed
+    → Means mode status unwritten old new
+Means-read mode input status unwritten old new read same means =
+    subst (λ n. Means mode status unwritten old (record new { reads_failed = n })) (sym same)
+    (means old.input new.input old.reads_failed read)
+
+-- of an input that is no script
+pub MeansRead-script : (mode : Mode) (input : List ℕ) (fault : ScriptFault) (unwritten : Type 0)
+    (output : Option Output) (failed : ℕ)
+    → unwritten
+    → ((n : ℕ) → fault ≡ ScriptFault.Line n → HasBadLine mode n input)
+    → MeansRead mode input (status_of_script fault) unwritten output failed output failed
+MeansRead-script mode input (ScriptFault.Line n) unwritten output failed same bad
+    before after reads read =
+    (same, (input, read, bad n refl))
+MeansRead-script mode input ScriptFault.NoMemory unwritten output failed same bad
+    before after reads read =
+    (inl same, refl, refl)
 
 -- of a run that stopped
-pub Means-stop : (mode : Mode) (stop : Stop) (unwritten : Type 0) (old new : Outside)
-    → ReportsPart mode old new
-    → (stop ≡ Stop.Write → Rises old.writes_failed new.writes_failed)
-    → (stop ≡ Stop.NoMemory → new.writes_failed ≡ old.writes_failed)
-    → new.reads_failed ≡ old.reads_failed
-    → Means mode (status_of_stop stop) unwritten old new
-Means-stop mode Stop.Write unwritten old new part failed memory reads = (part, failed refl)
-Means-stop mode Stop.NoMemory unwritten old new part failed memory reads =
-    (inr part, reads, memory refl)
+pub MeansRead-stop : (mode : Mode) (input text : List ℕ) (stop : Stop) (unwritten : Type 0)
+    (output : Option Output) (failed : ℕ) (output_then : Option Output) (failed_then : ℕ)
+    → Outputs mode input Status.Ok text
+    → WritesPart text output output_then
+    → (stop ≡ Stop.Write → Rises failed failed_then)
+    → (stop ≡ Stop.NoMemory → failed_then ≡ failed)
+    → MeansRead mode input (status_of_stop stop) unwritten output failed output_then failed_then
+MeansRead-stop mode input text Stop.Write unwritten output failed output_then failed_then
+    outputs part rose steady before after reads read = (
+      record {
+        input = input;
+        reads = read;
+        status = Status.Ok;
+        text = text;
+        outputs = outputs;
+        written = part;
+      },
+      rose refl,
+    )
+MeansRead-stop mode input text Stop.NoMemory unwritten output failed output_then failed_then
+    outputs part rose steady before after reads read = (
+      inr (record {
+        input = input;
+        reads = read;
+        status = Status.Ok;
+        text = text;
+        outputs = outputs;
+        written = part;
+      }),
+      refl,
+      steady refl,
+    )
+
+-- of a run that came to its end
+pub MeansRead-ok : (mode : Mode) (input text : List ℕ) (unwritten : Type 0)
+    (output : Option Output) (failed : ℕ) (output_then : Option Output) (failed_then : ℕ)
+    → Outputs mode input Status.Ok text
+    → IsPrinted text [] output output_then
+    → MeansRead mode input Status.Ok unwritten output failed output_then failed_then
+MeansRead-ok mode input text unwritten output failed output_then failed_then outputs printed
+    before after reads read =
+    let P : List ℕ → Type 0 = λ t. Writes t output output_then in
+    record {
+      input = input;
+      reads = read;
+      text = text;
+      outputs = outputs;
+      written = subst P (sym (append-nil printed.0) ∙ printed.1) printed.2;
+    }
+
+-- of a listing that came to its end
+pub MeansRead-shown : (input : List ℕ) (unwritten : Type 0)
+    (output : Option Output) (failed : ℕ) (output_then : Option Output) (failed_then : ℕ)
+    → Shows input None output output_then
+    → MeansRead Mode.Show input Status.Ok unwritten output failed output_then failed_then
+MeansRead-shown input unwritten output failed output_then failed_then shown
+    before after reads read =
+    record {
+      input = input;
+      reads = read;
+      text = show_lines 0 shown.0;
+      outputs = (shown.0, shown.1, refl);
+      written = shown.2;
+    }
+
+-- a prefix of the lines of a capture was written
+front_shown : (input : List ℕ) (messages : List Message) (fault : Option CaptureFault)
+    (old new : Outside)
+    → ReadsInput input old.input new.input
+    → IsCapture input messages fault
+    → WritesPart (show_lines 0 messages) old.output new.output
+    → WritesFront Mode.Show old new
+front_shown input messages None old new read is part =
+    record {
+      input = input;
+      reads = read;
+      status = Status.Ok;
+      text = show_lines 0 messages;
+      outputs = (messages, is, refl);
+      written = part;
+    }
+front_shown input messages (Some fault) old new read is part =
+    record {
+      input = input;
+      reads = read;
+      status = Status.BadCapture fault;
+      text = show_lines 0 messages;
+      outputs = (messages, is, refl);
+      written = part;
+    }
+
+-- of a listing that stopped
+pub MeansRead-unshown : (input : List ℕ) (stop : ShowStop) (unwritten : Type 0)
+    (output : Option Output) (failed : ℕ) (output_then : Option Output) (failed_then : ℕ)
+    → ((fault : CaptureFault) → stop ≡ ShowStop.Fault fault
+    → Shows input (Some fault) output output_then)
+    → (stop ≡ ShowStop.Write → Rises failed failed_then × ShowsPart input output output_then)
+    → (stop ≡ ShowStop.NoMemory → ShowsPart input output output_then)
+    → (stop ≢ ShowStop.Write → failed_then ≡ failed)
+    → MeansRead Mode.Show input (status_of_show stop) unwritten output failed output_then
+    failed_then
+MeansRead-unshown input (ShowStop.Fault fault) unwritten output failed output_then failed_then
+    faulty write memory steady before after reads read =
+    let shown = faulty fault refl in (
+      record {
+        input = input;
+        reads = read;
+        text = show_lines 0 shown.0;
+        outputs = (shown.0, shown.1, refl);
+        written = shown.2;
+      },
+      steady (λ is. cc),
+    )
+MeansRead-unshown input ShowStop.Write unwritten output failed output_then failed_then
+    faulty write memory steady before after reads read =
+    let part = (write refl).1 in
+    (front_shown input part.0 part.1 _ _ read part.2 part.3, (write refl).0)
+MeansRead-unshown input ShowStop.NoMemory unwritten output failed output_then failed_then
+    faulty write memory steady before after reads read =
+    let part = memory refl in
+    (inr (front_shown input part.0 part.1 _ _ read part.2 part.3), refl, steady (λ is. cc))
 
 -- ---- which status is due
 
@@ -91,31 +214,35 @@ pub due_from_means : (words : List (List ℕ)) (mode : Mode) (status due : Statu
     → ¬ Rises old.reads_failed new.reads_failed
     → ¬ Rises old.writes_failed new.writes_failed
     → (status ≡ due) ⊎ (status ≡ Status.NoMemory)
-due_from_means words (Mode.Plain window)
-    Status.Ok due unwritten old new before worded m told is_due reads writes =
-    let s = m.0 in
-    let left = left_from_read s.input before old.input new.input told s.read in
+due_from_means words mode Status.Ok due unwritten old new before worded m told is_due reads writes =
+    let left = left_from_read m.input before old.input new.input told m.reads.read in
     inl (IsDue-unique words before.left Status.Ok due
-    (Mode.Plain window, worded, (s.commands, rw left s.short, rw left s.script)) is_due)
+    (mode, worded, (rw left m.reads.short, (m.text, rw left m.outputs))) is_due)
+due_from_means words mode (Status.BadCapture fault)
+    due unwritten old new before worded m told is_due reads writes =
+    let all = m.0 in
+    let left = left_from_read all.input before old.input new.input told all.reads.read in
+    inl (IsDue-unique words before.left (Status.BadCapture fault) due
+    (mode, worded, (rw left all.reads.short, (all.text, rw left all.outputs))) is_due)
 due_from_means words mode Status.NoMemory due unwritten old new before worded m told is_due reads
     writes =
     inr refl
 due_from_means words mode (Status.Usage k)
     due unwritten old new before worded m told is_due reads writes =
     absurd m
-due_from_means words (Mode.Plain window) (Status.Script n)
+due_from_means words mode (Status.Script n)
     due unwritten old new before worded m told is_due reads writes =
     let b = m.1 in
-    let left = left_from_read b.input before old.input new.input told b.read in
+    let left = left_from_read b.0 before old.input new.input told b.1.read in
     inl (IsDue-unique words before.left (Status.Script n) due
-    (Mode.Plain window, worded, (rw left b.short, rw left b.bad)) is_due)
+    (mode, worded, (rw left b.1.short, rw left b.2)) is_due)
 due_from_means words mode Status.ReadFault due unwritten old new before worded m told is_due reads
     writes =
     absurd (reads m.1)
 due_from_means words mode Status.WriteFault due unwritten old new before worded m told is_due reads
     writes =
     absurd (writes m.1)
-due_from_means words (Mode.Plain window)
+due_from_means words mode
     Status.TooLong due unwritten old new before worded m told is_due reads writes =
     inl (IsDue-unique words before.left Status.TooLong due
-    (Mode.Plain window, worded, longer_from_told max_input old.input before told m.1) is_due)
+    (mode, worded, longer_from_told max_input old.input before told m.1) is_due)

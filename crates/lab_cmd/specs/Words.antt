@@ -1,5 +1,5 @@
 -- The words behind the program's name.
-use Rattle.std.specs.Prelude.{◌≡◌, ℕ, ◌+◌, ◌≤◌, ◌⊎◌, List, [], ◌∷◌, ◌++◌, length, take, codes, decimal}
+use Rattle.std.specs.Prelude.{◌≡◌, ℕ, ◌+◌, ◌≤◌, ◌⊎◌, List, [], ◌∷◌, ◌++◌, length, take, codes, decimal, ⊤}
 use Rattle.chan_values.specs.Limits.{max_window}
 use Rattle.lab_cmd.specs.declared.words.Mode.{Mode}
 
@@ -10,17 +10,18 @@ IsWindow window = (1 ≤ window) × (window ≤ max_window)
 -- the numbers of a mode are in range
 abbrev pub IsMode : Mode → Type 0
 IsMode (Mode.Plain window) = IsWindow window
+IsMode Mode.Show = ⊤
 
--- the window of a mode's ends
-abbrev pub window_of : Mode → ℕ
-window_of (Mode.Plain window) = window
+-- the words are these, and the window is 10,000; or `--window` and the window stand before these
+abbrev pub AsksWindow : ℕ → List (List ℕ) → List (List ℕ) → Type 0
+AsksWindow window more words =
+    ((words ≡ more) × (window ≡ 10000))
+    ⊎ ((words ≡ codes "--window" ∷ decimal window ∷ more) × IsWindow window)
 
--- the words are a command line of this mode: none, and the window is 10,000; or `--window` and the
--- window
+-- the words are a command line of this mode
 abbrev pub IsWords : Mode → List (List ℕ) → Type 0
-IsWords (Mode.Plain window) words =
-    ((words ≡ []) × (window ≡ 10000))
-    ⊎ ((words ≡ codes "--window" ∷ decimal window ∷ []) × IsWindow window)
+IsWords (Mode.Plain window) words = AsksWindow window [] words
+IsWords Mode.Show words = words ≡ codes "--show" ∷ []
 
 -- some words more make a command line of these
 abbrev pub Begins : List (List ℕ) → Type 0

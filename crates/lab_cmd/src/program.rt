@@ -7,9 +7,9 @@ ghost use Rattle.lab_run.specs.Laws.{ScriptLaws};
 ghost use Rattle.lab_cmd.specs.declared.status.Status.{Status};
 ghost use Rattle.lab_cmd.specs.declared.words.Mode.{Mode};
 ghost use Rattle.lab_cmd.specs.Inputs.{GivesAtMost, max_input};
-ghost use Rattle.lab_cmd.specs.Meanings.{IsDue, Means, outside};
+ghost use Rattle.lab_cmd.specs.Meanings.{IsDue, Means, MeansRead, outside};
 ghost use Rattle.lab_cmd.specs.Statuses.{status_of};
-ghost use Rattle.lab_cmd.specs.Words.{IsMode, IsWords, IsWordsFault};
+ghost use Rattle.lab_cmd.specs.Words.{IsMode, IsWindow, IsWords, IsWordsFault};
 
 use crate::input::read_input;
 use crate::script::read_script;
@@ -18,11 +18,13 @@ use crate::words::{Mode, read_words};
 use chan_io::{Sink, Source};
 use chan_values::Word;
 use lab_run::run;
+use lab_show::show;
 use std::alloc::Global;
 
 /// Reads a script from the source, runs it on a plugin's end and an agent's end, and writes the
-/// report of the run to the sink. Nothing is read or written where the words are no command line,
-/// and nothing is written before the whole script was read and judged.
+/// report of the run to the sink; or reads a capture, and writes a line for each of its messages.
+/// Nothing is read or written where the words are no command line, and nothing is written before the
+/// whole input was read and a script judged.
 ///
 /// `means` says what each other status means in the mode that the words ask for. Where no call of the
 /// outside fails, the status that is due comes, or memory was wanted (`complete`). `laws` holds of every
@@ -74,7 +76,30 @@ fn run_mode<S: Source, K: Sink>(
     ensures writes_counted { K.faults sink.old ≤ K.faults sink.new }
 {
     let input = read_input(alloc, source)?;
-    let commands = read_script(alloc, &input)?;
-    run(alloc, mode.window(), commands, sink)?;
+    match mode {
+        Mode::Plain { window } => report(alloc, window, &input, sink),
+        Mode::Show => list(alloc, &input, sink),
+    }
+}
+
+/// Writes the report of the script that the input is, run on two ends with this window.
+fn report<K: Sink>(alloc: Global, window: u64, input: &[u8], sink: &mut K) -> Result<(), Status>
+    requires { IsWindow window }
+    ensures means { MeansRead (Mode.Plain window) input.now (status_of result) (sink.new ≡ sink.old)
+        (K.output sink.old) (K.faults sink.old) (K.output sink.new) (K.faults sink.new) }
+    ensures counted { K.faults sink.old ≤ K.faults sink.new }
+{
+    let commands = read_script(alloc, input)?;
+    run(alloc, window, commands, sink)?;
+    Ok(())
+}
+
+/// Writes the lines of the capture that the input is.
+fn list<K: Sink>(alloc: Global, input: &[u8], sink: &mut K) -> Result<(), Status>
+    ensures means { MeansRead Mode.Show input.now (status_of result) (sink.new ≡ sink.old)
+        (K.output sink.old) (K.faults sink.old) (K.output sink.new) (K.faults sink.new) }
+    ensures counted { K.faults sink.old ≤ K.faults sink.new }
+{
+    show(alloc, input, sink)?;
     Ok(())
 }

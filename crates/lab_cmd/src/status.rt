@@ -4,13 +4,15 @@ ghost use Rattle.std.specs.Prelude.{◌≡◌};
 
 use crate::input::InputFault;
 use crate::script::ScriptFault;
+use agent_message::CaptureFault;
 use lab_run::Stop;
+use lab_show::ShowStop;
 use std::fmt;
 
 /// How a run of the lab ended.
 #[derive(Clone, Copy, Debug, PartialEq, Eq)]
 pub enum Status {
-    /// The input was read to its end, and its report was written.
+    /// The input was read to its end, and its report or its listing was written.
     Ok,
     /// There was no memory.
     NoMemory,
@@ -21,10 +23,13 @@ pub enum Status {
     Script(u64),
     /// A read of the input failed.
     ReadFault,
-    /// A write of the report failed.
+    /// A write failed.
     WriteFault,
     /// The input is longer than 67,108,864 bytes.
     TooLong,
+    /// The input is no capture, and this is its first fault. The lines of the messages before it were
+    /// written.
+    BadCapture(CaptureFault),
 }
 
 impl Status {
@@ -42,6 +47,7 @@ impl Status {
             Status::ReadFault => 4,
             Status::WriteFault => 5,
             Status::TooLong => 6,
+            Status::BadCapture(_) => 16,
         }
     }
 }
@@ -63,6 +69,11 @@ impl fmt::Display for Status {
             Status::ReadFault => write!(f, "ReadFault"),
             Status::WriteFault => write!(f, "WriteFault"),
             Status::TooLong => write!(f, "TooLong"),
+            Status::BadCapture(fault) => {
+                let at = fault.at;
+                let cause = fault.cause.number();
+                write!(f, "BadCapture {at} {cause}")
+            }
         }
     }
 }
@@ -106,6 +117,21 @@ impl From<Stop> for Status {
         match stop {
             Stop::Write => Status::WriteFault,
             Stop::NoMemory => Status::NoMemory,
+        }
+    }
+}
+
+impl From<ShowStop> for Status {
+    ghost use Rattle.std.specs.Prelude.{◌≡◌};
+    ghost use Rattle.lab_cmd.specs.Statuses.{status_of_show};
+
+    ghost from_gives = { λ stop status. status ≡ status_of_show stop };
+
+    fn from(stop: ShowStop) -> Status {
+        match stop {
+            ShowStop::Fault(fault) => Status::BadCapture(fault),
+            ShowStop::Write => Status::WriteFault,
+            ShowStop::NoMemory => Status::NoMemory,
         }
     }
 }

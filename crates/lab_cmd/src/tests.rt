@@ -1,5 +1,6 @@
 //! Runs of the program over fakes of the outside.
 
+mod listings;
 mod reports;
 mod statuses;
 
@@ -16,11 +17,16 @@ pub fn run(alloc: Global, script: &str) -> Result<(Status, FaultySink), Fail> {
 
 /// The same, with the words of a command line.
 pub fn run_with(alloc: Global, line: &str, script: &str) -> Result<(Status, FaultySink), Fail> {
+    run_bytes(alloc, line, script.as_bytes())
+}
+
+/// The status of an input of bytes, with what was written.
+pub fn run_bytes(alloc: Global, line: &str, input: &[u8]) -> Result<(Status, FaultySink), Fail> {
     let mut words = Vec::new(alloc);
     for word in line.split_whitespace() {
         words.push(Word::new(String::from_str(alloc, word)?))?;
     }
-    let content = Vec::from_slice(alloc, script.as_bytes())?;
+    let content = Vec::from_slice(alloc, input)?;
     let mut source = FaultySource::new(content, Vec::new(alloc));
     let mut sink = FaultySink::new(alloc, Vec::new(alloc));
     let status = lab(alloc, &words, &mut source, &mut sink);

@@ -1,6 +1,6 @@
 //! The words behind the program's name.
 
-ghost use Rattle.std.specs.Prelude.{◌≡◌, ◌≢◌, ℕ, IfOk, IfErr, IfSome, IfNone, decimal};
+ghost use Rattle.std.specs.Prelude.{◌≡◌, ◌≢◌, ◌∷◌, codes, ℕ, IfOk, IfErr, IfSome, IfNone, decimal};
 ghost use Rattle.lab_cmd.specs.Words.{IsWindow, IsWords, IsWordsFault};
 
 use chan_values::{MAX_WINDOW, Word};
@@ -14,19 +14,8 @@ const DEFAULT_WINDOW: u64 = 10_000;
 pub enum Mode {
     /// To run the script of the input on two ends with this window.
     Plain { window: u64 },
-}
-
-impl Mode {
-    ghost use Rattle.lab_cmd.specs.Words.{window_of};
-
-    /// The window of both ends.
-    pub fn window(self) -> u64
-        ensures { result ≡ window_of self }
-    {
-        match self {
-            Mode::Plain { window } => window,
-        }
-    }
+    /// To list the messages of the capture that the input is.
+    Show,
 }
 
 /// The mode that the words ask for, or the number of words that still begin a command line.
@@ -39,9 +28,24 @@ pub fn read_words(words: &[Word]) -> Result<Mode, u64>
             window: DEFAULT_WINDOW,
         });
     };
-    if option.as_str() != "--window" {
+    if option.as_str() == "--window" {
+        return read_windowed(operands);
+    }
+    if option.as_str() != "--show" {
         return Err(0);
     }
+    if !operands.is_empty() {
+        return Err(1);
+    }
+    Ok(Mode::Show)
+}
+
+/// The mode that `--window` and these words ask for, or the number of words, `--window` among them, that
+/// still begin a command line.
+fn read_windowed(operands: &[Word]) -> Result<Mode, u64>
+    ensures mode { IfOk result (λ mode. IsWords mode (codes "--window" ∷ operands.now)) }
+    ensures fault { IfErr result (λ k. IsWordsFault (codes "--window" ∷ operands.now) k) }
+{
     let Some((number, more)) = operands.split_first() else {
         return Err(1);
     };

@@ -36,6 +36,7 @@ pub fn show<K: Sink>(alloc: Global, capture: &[u8], sink: &mut K) -> Result<(), 
     ensures no_memory { result ≡ Err ShowStop.NoMemory
         → ShowsPart capture.now (K.output sink.old) (K.output sink.new) }
     ensures steady { result ≢ Err ShowStop.Write → K.faults sink.new ≡ K.faults sink.old }
+    ensures counted { K.faults sink.old ≤ K.faults sink.new }
     ensures complete { (messages : List Message) (fault : Option CaptureFault)
         → IsCapture capture.now messages fault → ¬ Rises (K.faults sink.old) (K.faults sink.new)
         → (result ≡ due fault) ⊎ (result ≡ Err ShowStop.NoMemory) }
@@ -71,6 +72,7 @@ fn write_lines<K: Sink>(
         (WritesPart (show_lines at messages.now) (K.output sink.old) (K.output sink.new)) }
     ensures failed { result ≡ Err IoFault.Failed → Rises (K.faults sink.old) (K.faults sink.new) }
     ensures steady { result ≢ Err IoFault.Failed → K.faults sink.new ≡ K.faults sink.old }
+    ensures counted { K.faults sink.old ≤ K.faults sink.new }
 {
     let mut lines = Vec::new(alloc);
     let mut next = at;

@@ -2,6 +2,7 @@
 
 use super::{run, run_with};
 use crate::{Status, lab};
+use agent_message::{CaptureCause, CaptureFault};
 use chan_io::{FaultySink, FaultySource};
 use std::test::Fail;
 
@@ -27,6 +28,10 @@ fn a_faulty_command_line_is_told_by_its_place(rt: HostRuntime) -> Result<(), Fai
         ("--window +1", 1),
         ("--window 1 2", 2),
         ("--window 1 --window 1", 2),
+        ("--window 1 --show", 2),
+        ("--show 1", 1),
+        ("--show --window 1", 1),
+        ("--showing", 0),
     ];
     for (line, k) in cases {
         let (status, sink) = run_with(rt.alloc(), line, "put P 1 61\n")?;
@@ -107,6 +112,8 @@ fn a_failed_write_is_told(rt: HostRuntime) -> Result<(), Fail> {
 
 #[test]
 fn a_status_is_told_by_its_line(rt: HostRuntime) -> Result<(), Fail> {
+    let cause = CaptureCause::Cut(4);
+    let cut = Status::BadCapture(CaptureFault { at: 127, cause });
     let cases = [
         (Status::NoMemory, 1, "lab: status 1 NoMemory"),
         (Status::Usage(0), 2, "lab: status 2 Usage 0"),
@@ -114,6 +121,7 @@ fn a_status_is_told_by_its_line(rt: HostRuntime) -> Result<(), Fail> {
         (Status::ReadFault, 4, "lab: status 4 ReadFault"),
         (Status::WriteFault, 5, "lab: status 5 WriteFault"),
         (Status::TooLong, 6, "lab: status 6 TooLong"),
+        (cut, 16, "lab: status 16 BadCapture 127 3"),
     ];
     for (status, number, line) in cases {
         assert!(rt; status.number() == number, "{line}");
