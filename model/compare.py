@@ -53,7 +53,8 @@ def of_program(program, words, script):
 def stored_reports(modes):
     """How many stored reports the model gives, and the names of the others."""
     agreed, others = 0, []
-    for script in sorted((TOP / "examples").glob("*.lab")):
+    examples = TOP / "examples"
+    for script in sorted([*examples.glob("*.lab"), *examples.glob("*.capture")]):
         stored = script.with_suffix(".words")
         words = stored.read_bytes().split() if stored.exists() else []
         given = of_model(words, script.read_bytes(), modes)[2]
