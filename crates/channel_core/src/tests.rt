@@ -48,39 +48,55 @@ fn releases(heard: &Heard, bytes: &[u8]) -> bool {
     same
 }
 
-/// The number of a stream message that is pulled.
-fn stream_number(pull: &Pull) -> Option<u64> {
-    match pull {
-        Pull::Emit(Outgoing::Stream(sent)) => Some(sent.seq),
-        _ => None,
-    }
+/// Whether a put of an item of that byte gets this number.
+fn puts(end: &mut End, alloc: Global, byte: u8, seq: u64) -> Result<bool, Fail> {
+    let put = end.put(item(alloc, byte)?, ID, 0);
+    Ok(matches!(put, Put::Seq(next) if next == seq))
 }
 
-/// The number of an acknowledgement that is pulled.
-fn ack_number(pull: &Pull) -> Option<u64> {
-    match pull {
-        Pull::Emit(Outgoing::Ack { seq, .. }) => Some(*seq),
-        _ => None,
-    }
+/// Whether a message that is heard releases items of these bytes.
+fn hears(end: &mut End, alloc: Global, seq: u64, byte: u8, bytes: &[u8]) -> Result<bool, Fail>
+    requires { seq < 2 ^ 63 }
+{
+    let heard = end.heard(0, message(alloc, seq, byte)?);
+    Ok(releases(&heard, bytes))
+}
+
+/// Whether an acknowledgement of this number counts.
+fn is_acked(end: &mut End, now: u64, seq: u64) -> bool
+    requires { seq < 2 ^ 63 }
+{
+    matches!(end.heard(now, Incoming::Ack { seq }), Heard::Acked(acked) if acked == seq)
+}
+
+/// Whether the stream message with this number goes out.
+fn sends(end: &mut End, now: u64, seq: u64) -> bool {
+    matches!(end.pull(now), Pull::Emit(Outgoing::Stream(sent)) if sent.seq == seq)
+}
+
+/// Whether the acknowledgement of this number goes out.
+fn acknowledges(end: &mut End, number: u64) -> bool {
+    matches!(end.pull(0), Pull::Emit(Outgoing::Ack { seq, .. }) if seq == number)
+}
+
+/// Whether nothing goes out.
+fn is_idle(end: &mut End, now: u64) -> bool {
+    matches!(end.pull(now), Pull::Idle)
 }
 
 #[test]
 fn a_put_is_numbered_or_handed_back(rt: HostRuntime) -> Result<(), Fail> {
     let alloc = rt.alloc();
-    let mut plugin = End::new(alloc, Side::Plugin, 2).expect(&rt, "there is memory");
-    let first = plugin.put(item(alloc, b'a')?, ID, 0);
-    assert!(rt; matches!(first, Put::Seq(0)), "the first number is 0");
-    let second = plugin.put(item(alloc, b'b')?, ID, 0);
-    assert!(rt; matches!(second, Put::Seq(1)), "the next is 1");
-    match plugin.put(item(alloc, b'c')?, ID, 0) {
-        Put::Full(item) => assert!(rt; is_item(&item, b'c'), "the item comes back"),
-        _ => panic!(rt; "the window has two messages"),
-    }
+    let mut plugin = End::new(alloc, Side::Plugin, 2)?;
+    assert!(rt; puts(&mut plugin, alloc, b'a', 0)?, "the first number is 0");
+    assert!(rt; puts(&mut plugin, alloc, b'b', 1)?, "the next is 1");
+    let third = plugin.put(item(alloc, b'c')?, ID, 0);
+    let back = matches!(&third, Put::Full(item) if is_item(item, b'c'));
+    assert!(rt; back, "the window has two messages");
     plugin.close();
-    match plugin.put(item(alloc, b'd')?, ID, 0) {
-        Put::Closed(item) => assert!(rt; is_item(&item, b'd'), "the item comes back"),
-        _ => panic!(rt; "the end is closed"),
-    }
+    let fourth = plugin.put(item(alloc, b'd')?, ID, 0);
+    let back = matches!(&fourth, Put::Closed(item) if is_item(item, b'd'));
+    assert!(rt; back, "the end is closed");
     let look = Look {
         next: 2,
         low: 0,
@@ -93,13 +109,12 @@ fn a_put_is_numbered_or_handed_back(rt: HostRuntime) -> Result<(), Fail> {
 }
 
 #[test]
-fn a_pull_gives_acknowledgements_and_then_messages(rt: HostRuntime) -> Result<(), Fail> {
+fn a_pull_gives_an_acknowledgement_first(rt: HostRuntime) -> Result<(), Fail> {
     let alloc = rt.alloc();
-    let mut plugin = End::new(alloc, Side::Plugin, 2).expect(&rt, "there is memory");
-    let _put = plugin.put(item(alloc, b'a')?, ID, 0);
-    assert!(rt; matches!(plugin.pull(0), Pull::Idle), "it is not connected");
+    let mut plugin = End::new(alloc, Side::Plugin, 2)?;
+    assert!(rt; puts(&mut plugin, alloc, b'a', 0)?, "the first number is 0");
     plugin.opened(0);
-    let _heard = plugin.heard(0, message(alloc, 0, b'b')?);
+    assert!(rt; hears(&mut plugin, alloc, 0, b'b', b"b")?, "0 is in order");
     match plugin.pull(7) {
         Pull::Emit(Outgoing::Ack { seq, id, date }) => {
             assert_eq!(rt; (seq, date), (0, 7));
@@ -107,25 +122,33 @@ fn a_pull_gives_acknowledgements_and_then_messages(rt: HostRuntime) -> Result<()
         }
         _ => panic!(rt; "an acknowledgement goes first"),
     }
+    assert!(rt; sends(&mut plugin, 8, 0), "the message goes then");
+    Ok(())
+}
+
+#[test]
+fn a_pull_gives_each_message_once_a_connection(rt: HostRuntime) -> Result<(), Fail> {
+    let alloc = rt.alloc();
+    let mut plugin = End::new(alloc, Side::Plugin, 2)?;
+    assert!(rt; puts(&mut plugin, alloc, b'a', 0)?, "the first number is 0");
+    assert!(rt; is_idle(&mut plugin, 0), "it is not connected");
+    plugin.opened(0);
     match plugin.pull(8) {
         Pull::Emit(Outgoing::Stream(sent)) => {
             assert_eq!(rt; (sent.seq, sent.date), (0, 1), "the put was at 0");
             assert!(rt; sent.id == ID, "the id of the put");
             assert!(rt; is_item(&sent.item, b'a'), "the item of the put");
         }
-        _ => panic!(rt; "the message goes then"),
+        _ => panic!(rt; "the message goes out"),
     }
-    assert!(rt;
-        matches!(plugin.pull(9), Pull::Idle),
-        "it went on this connection"
-    );
+    assert!(rt; is_idle(&mut plugin, 9), "it went on this connection");
     Ok(())
 }
 
 #[test]
 fn early_items_are_released_by_number(rt: HostRuntime) -> Result<(), Fail> {
     let alloc = rt.alloc();
-    let mut agent = End::new(alloc, Side::Agent, 3).expect(&rt, "there is memory");
+    let mut agent = End::new(alloc, Side::Agent, 3)?;
     agent.opened(0);
     let cases = [
         (2, b'c', b"".as_slice()),
@@ -134,18 +157,17 @@ fn early_items_are_released_by_number(rt: HostRuntime) -> Result<(), Fail> {
         (3, b'd', b"d".as_slice()),
     ];
     for (seq, byte, bytes) in cases {
-        let heard = agent.heard(0, message(alloc, seq, byte)?);
-        assert!(rt; releases(&heard, bytes), "at {seq}");
+        assert!(rt; hears(&mut agent, alloc, seq, byte, bytes)?, "at {seq}");
     }
     let late = agent.heard(0, message(alloc, 1, b'b')?);
     assert!(rt; matches!(late, Heard::Late), "1 was taken");
     let beyond = agent.heard(0, message(alloc, 7, b'h')?);
     assert!(rt; matches!(beyond, Heard::Beyond), "4, 5 and 6 are inside");
     for seq in [2, 1, 0] {
-        assert!(rt; ack_number(&agent.pull(0)) == Some(seq), "{seq} is owed");
+        assert!(rt; acknowledges(&mut agent, seq), "{seq} is owed");
     }
     assert!(rt;
-        matches!(agent.pull(0), Pull::Idle),
+        is_idle(&mut agent, 0),
         "7 is not owed, and 3 found no room"
     );
     Ok(())
@@ -154,41 +176,33 @@ fn early_items_are_released_by_number(rt: HostRuntime) -> Result<(), Fail> {
 #[test]
 fn a_late_message_is_not_owed_where_the_list_is_full(rt: HostRuntime) -> Result<(), Fail> {
     let alloc = rt.alloc();
-    let mut agent = End::new(alloc, Side::Agent, 1).expect(&rt, "there is memory");
+    let mut agent = End::new(alloc, Side::Agent, 1)?;
     agent.opened(0);
-    let first = agent.heard(0, message(alloc, 0, b'a')?);
-    assert!(rt; releases(&first, b"a"), "0 is in order");
-    assert!(rt; ack_number(&agent.pull(0)) == Some(0), "0 is acknowledged");
-    let second = agent.heard(0, message(alloc, 1, b'b')?);
-    assert!(rt; releases(&second, b"b"), "1 is in order");
+    assert!(rt; hears(&mut agent, alloc, 0, b'a', b"a")?, "0 is in order");
+    assert!(rt; acknowledges(&mut agent, 0), "0 is acknowledged");
+    assert!(rt; hears(&mut agent, alloc, 1, b'b', b"b")?, "1 is in order");
     let again = agent.heard(0, message(alloc, 0, b'a')?);
     assert!(rt; matches!(again, Heard::Late), "0 was taken");
-    assert!(rt; ack_number(&agent.pull(0)) == Some(1), "1 is acknowledged");
-    assert!(rt; matches!(agent.pull(0), Pull::Idle), "0 found no room");
+    assert!(rt; acknowledges(&mut agent, 1), "1 is acknowledged");
+    assert!(rt; is_idle(&mut agent, 0), "0 found no room");
     Ok(())
 }
 
 #[test]
 fn a_pause_holds_stream_messages_back(rt: HostRuntime) -> Result<(), Fail> {
     let alloc = rt.alloc();
-    let mut plugin = End::new(alloc, Side::Plugin, 10_000).expect(&rt, "there is memory");
+    let mut plugin = End::new(alloc, Side::Plugin, 10_000)?;
     plugin.opened(0);
-    let put = plugin.put(item(alloc, b'a')?, ID, 0);
-    assert!(rt; matches!(put, Put::Seq(0)), "the first number is 0");
-    let heard = plugin.heard(0, message(alloc, 0, b'b')?);
-    assert!(rt; releases(&heard, b"b"), "0 is in order");
+    assert!(rt; puts(&mut plugin, alloc, b'a', 0)?, "the first number is 0");
+    assert!(rt; hears(&mut plugin, alloc, 0, b'b', b"b")?, "0 is in order");
     let paused = plugin.heard(0, Incoming::Pause);
     assert!(rt; matches!(paused, Heard::Paused), "it is paused");
-    assert!(rt; ack_number(&plugin.pull(0)) == Some(0), "0 is acknowledged");
-    assert!(rt; matches!(plugin.pull(0), Pull::Idle), "the item waits");
+    assert!(rt; acknowledges(&mut plugin, 0), "0 is acknowledged");
+    assert!(rt; is_idle(&mut plugin, 0), "the item waits");
     let started = plugin.heard(0, Incoming::Start);
     assert!(rt; matches!(started, Heard::Started), "it goes on");
-    assert!(rt;
-        stream_number(&plugin.pull(0)) == Some(0),
-        "the item goes out"
-    );
-    let acked = plugin.heard(0, Incoming::Ack { seq: 0 });
-    assert!(rt; matches!(acked, Heard::Acked(0)), "it is acknowledged");
+    assert!(rt; sends(&mut plugin, 0, 0), "the item goes out");
+    assert!(rt; is_acked(&mut plugin, 0, 0), "it is acknowledged");
     assert!(rt; plugin.look().low == 1, "nothing is left");
     Ok(())
 }
@@ -196,18 +210,15 @@ fn a_pause_holds_stream_messages_back(rt: HostRuntime) -> Result<(), Fail> {
 #[test]
 fn a_closing_with_a_text_ends_an_end(rt: HostRuntime) -> Result<(), Fail> {
     let alloc = rt.alloc();
-    let mut plugin = End::new(alloc, Side::Plugin, 2).expect(&rt, "there is memory");
+    let mut plugin = End::new(alloc, Side::Plugin, 2)?;
     plugin.opened(0);
-    let _put = plugin.put(item(alloc, b'a')?, ID, 0);
+    assert!(rt; puts(&mut plugin, alloc, b'a', 0)?, "the first number is 0");
     let output = Text::new(String::from_str(alloc, "bye")?);
     let ended = plugin.heard(0, Incoming::Closing { output });
     assert!(rt; matches!(ended, Heard::Ended), "it has ended");
     let after = plugin.heard(0, message(alloc, 0, b'b')?);
     assert!(rt; matches!(after, Heard::AfterClose), "nothing is heard then");
-    assert!(rt;
-        matches!(plugin.pull(0), Pull::Idle),
-        "nothing goes out then"
-    );
+    assert!(rt; is_idle(&mut plugin, 0), "nothing goes out then");
     assert!(rt; plugin.tick(1000) == Tick::Nothing, "no timer expires then");
     assert!(rt; plugin.look().expected == 0, "nothing was taken");
     Ok(())
@@ -216,10 +227,10 @@ fn a_closing_with_a_text_ends_an_end(rt: HostRuntime) -> Result<(), Fail> {
 #[test]
 fn a_timer_runs_from_the_transmission_after_a_reopening(rt: HostRuntime) -> Result<(), Fail> {
     let alloc = rt.alloc();
-    let mut plugin = End::new(alloc, Side::Plugin, 2).expect(&rt, "there is memory");
+    let mut plugin = End::new(alloc, Side::Plugin, 2)?;
     plugin.opened(0);
-    let _put = plugin.put(item(alloc, b'a')?, ID, 0);
-    assert!(rt; stream_number(&plugin.pull(0)) == Some(0), "it goes out");
+    assert!(rt; puts(&mut plugin, alloc, b'a', 0)?, "the first number is 0");
+    assert!(rt; sends(&mut plugin, 0, 0), "it goes out");
     plugin.lost();
     assert!(rt; plugin.tick(5000) == Tick::Nothing, "it is not connected");
     plugin.opened(5000);
@@ -227,10 +238,7 @@ fn a_timer_runs_from_the_transmission_after_a_reopening(rt: HostRuntime) -> Resu
         plugin.tick(6000) == Tick::Nothing,
         "it was not sent on this connection"
     );
-    assert!(rt;
-        stream_number(&plugin.pull(6000)) == Some(0),
-        "it goes out again"
-    );
+    assert!(rt; sends(&mut plugin, 6000, 0), "it goes out again");
     assert!(rt; plugin.tick(6200) == Tick::Nothing, "200 ms is not past");
     assert!(rt; plugin.tick(6201) == Tick::Due(0), "it is past");
     assert!(rt; plugin.tick(9000) == Tick::Nothing, "it is marked");
@@ -240,24 +248,20 @@ fn a_timer_runs_from_the_transmission_after_a_reopening(rt: HostRuntime) -> Resu
 #[test]
 fn an_acknowledgement_counts_after_a_reopening(rt: HostRuntime) -> Result<(), Fail> {
     let alloc = rt.alloc();
-    let mut plugin = End::new(alloc, Side::Plugin, 2).expect(&rt, "there is memory");
+    let mut plugin = End::new(alloc, Side::Plugin, 2)?;
     plugin.opened(0);
-    let _first = plugin.put(item(alloc, b'a')?, ID, 0);
-    let _second = plugin.put(item(alloc, b'b')?, ID, 0);
-    assert!(rt; stream_number(&plugin.pull(0)) == Some(0), "0 goes out");
+    assert!(rt; puts(&mut plugin, alloc, b'a', 0)?, "the first number is 0");
+    assert!(rt; puts(&mut plugin, alloc, b'b', 1)?, "the next is 1");
+    assert!(rt; sends(&mut plugin, 0, 0), "0 goes out");
     plugin.lost();
     plugin.opened(100);
-    let acked = plugin.heard(150, Incoming::Ack { seq: 0 });
-    assert!(rt; matches!(acked, Heard::Acked(0)), "0 was sent before");
+    assert!(rt; is_acked(&mut plugin, 150, 0), "0 was sent before");
     let again = plugin.heard(150, Incoming::Ack { seq: 0 });
     assert!(rt; matches!(again, Heard::UnknownAck(0)), "0 is acknowledged");
     let unsent = plugin.heard(150, Incoming::Ack { seq: 1 });
     assert!(rt; matches!(unsent, Heard::UnknownAck(1)), "1 was never sent");
-    assert!(rt; stream_number(&plugin.pull(200)) == Some(1), "1 goes out");
-    assert!(rt;
-        matches!(plugin.pull(200), Pull::Idle),
-        "0 does not go again"
-    );
+    assert!(rt; sends(&mut plugin, 200, 1), "1 goes out");
+    assert!(rt; is_idle(&mut plugin, 200), "0 does not go again");
 
     // The sample 150: 850 / 8 is 106, and the deviation is 50.
     assert!(rt; plugin.tick(356) == Tick::Nothing, "156 ms is not past");
@@ -268,18 +272,15 @@ fn an_acknowledgement_counts_after_a_reopening(rt: HostRuntime) -> Result<(), Fa
 #[test]
 fn an_end_gives_up_after_three_thousand_resends(rt: HostRuntime) -> Result<(), Fail> {
     let alloc = rt.alloc();
-    let mut plugin = End::new(alloc, Side::Plugin, 10_000).expect(&rt, "there is memory");
+    let mut plugin = End::new(alloc, Side::Plugin, 10_000)?;
     plugin.opened(0);
-    let _put = plugin.put(item(alloc, b'a')?, ID, 0);
-    assert!(rt; stream_number(&plugin.pull(0)) == Some(0), "it goes out");
+    assert!(rt; puts(&mut plugin, alloc, b'a', 0)?, "the first number is 0");
+    assert!(rt; sends(&mut plugin, 0, 0), "it goes out");
     assert!(rt; plugin.tick(200) == Tick::Nothing, "200 ms is not past");
     for round in 1..3001u64 {
         let now = 201 * round;
         assert!(rt; plugin.tick(now) == Tick::Due(0), "due in round {round}");
-        assert!(rt;
-            stream_number(&plugin.pull(now)) == Some(0),
-            "sent in round {round}"
-        );
+        assert!(rt; sends(&mut plugin, now, 0), "sent in round {round}");
     }
     assert!(rt; plugin.tick(603_201) == Tick::GaveUp(0), "it gives up");
     let put = plugin.put(item(alloc, b'a')?, ID, 603_201);
