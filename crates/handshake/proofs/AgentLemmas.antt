@@ -1,5 +1,5 @@
 -- An agent has one step with an item behind the same items.
-use Rattle.std.proofs.Common.{◌≡◌, ◌⊎◌, ◌∙◌, ℕ, Option, Some, None, List, [], ◌∷◌, ◌++◌, refl, inl, inr, ap, sym, subst}
+use Rattle.std.proofs.Common.{◌≡◌, ◌∙◌, ℕ, Option, Some, None, List, [], ◌∷◌, ◌++◌, refl, inl, inr, ap, sym, subst}
 use Rattle.chan_values.specs.declared.item.Item.{Item}
 use Rattle.json_bodies.proofs.HandshakeResponseLemmas.{response_table}
 use Rattle.handshake.proofs.BodyLemmas.{no_other, one_other, one_value}

@@ -1,5 +1,5 @@
 -- A payload is one body, or shows one fault; so an item is refused in one way.
-use Rattle.std.proofs.Common.{◌≡◌, ◌⊎◌, ◌∙◌, ℕ, List, Some, Ok, inl, inr, ap, sym, subst}
+use Rattle.std.proofs.Common.{◌≡◌, ◌∙◌, ℕ, List, Some, Ok, inl, inr, ap, sym, subst}
 use Rattle.std.specs.List.{slice_get}
 use Rattle.serde_json.specs.Data.{Data}
 use Rattle.chan_values.specs.declared.item.Item.{Item}

@@ -1,5 +1,5 @@
 -- A client has one step with an item behind the same items.
-use Rattle.std.proofs.Common.{◌≡◌, ◌≤◌, ◌<◌, ◌⊎◌, ◌∙◌, ℕ, Option, Some, None, List, [], ◌∷◌, ◌++◌, length, arith, inl, inr, ap, sym, subst}
+use Rattle.std.proofs.Common.{◌≡◌, ◌≤◌, ◌<◌, ◌∙◌, ℕ, Option, Some, None, List, [], ◌∷◌, ◌++◌, length, arith, inl, inr, ap, sym, subst}
 use Rattle.chan_values.specs.declared.item.Item.{Item}
 use Rattle.json_bodies.proofs.HandshakeCompleteLemmas.{complete_table}
 use Rattle.json_bodies.proofs.HandshakeRequestLemmas.{request_table}

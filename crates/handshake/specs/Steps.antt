@@ -1,5 +1,5 @@
 -- What holds of the steps of both sides.
-use Rattle.std.specs.Prelude.{◌≡◌, ◌≢◌, ◌≤◌, List, [], ◌∷◌, ◌++◌, length}
+use Rattle.std.specs.Prelude.{◌≢◌, ◌≤◌, List, [], ◌∷◌, ◌++◌, length}
 use Rattle.chan_values.specs.Limits.{max_payload}
 use Rattle.chan_values.specs.declared.item.Item.{Item}
 use Rattle.json_members.specs.declared.body_fault.BodyFault.{BodyFault}
