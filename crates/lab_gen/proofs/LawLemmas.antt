@@ -1,4 +1,4 @@
--- The lines of a generated script, and an end that is closed after it gave up.
+-- An end of a generated script is closed only where it gave up.
 use Rattle.std.proofs.Common.{◌≡◌, ◌≢◌, ℕ, ◌+◌, ◌*◌, ◌^◌, ◌<◌, ◌≤◌, zero, suc, Bool, false, ◌⊎◌, inl, inr, ⊎_elim, Option, Some, None, List, [], ◌∷◌, ◌++◌, length, refl, sym, ap, subst, ◌∙◌, add-one, arith}
 use Rattle.std.specs.List.{All, cons_option, fold, list_any}
 use Rattle.std.proofs.lemmas.Bool.{cond_both}
@@ -18,7 +18,6 @@ use Rattle.channel_core.specs.History.{closes, emissions, is_closed, put_items, 
 use Rattle.channel_core.specs.Legal.{answer_to_heard, answer_to_incoming, answer_to_tick}
 use Rattle.channel_core.specs.World.{Event, entry_at, history_of}
 use Rattle.channel_core.proofs.LegalLemmas.{ack_cases, stream_cases}
-use Rattle.lab_script.specs.Command.{IsCommand}
 use Rattle.lab_script.specs.declared.command.Action.{Action}
 use Rattle.lab_script.specs.declared.command.Command.{Command}
 use Rattle.lab_script.specs.declared.outcome.Outcome.{Outcome}
@@ -30,53 +29,10 @@ use Rattle.lab_run.specs.Steps.{Step, called, emission_at, events_of, heard_at, 
 use Rattle.lab_run.proofs.RunLemmas.{run_is_settled}
 use Rattle.lab_gen.specs.declared.round.Round.{Round}
 use Rattle.lab_gen.specs.Ends.{IsGenerated}
-use Rattle.lab_gen.specs.Generator.{generated, lines_of, round_at, round_lines, rounds}
-use Rattle.lab_gen.specs.Laws.{GeneratedIsScript, GeneratedLaws, GeneratedReleasesAll, NeverGaveUp}
-use Rattle.lab_gen.proofs.RunLemmas.{IsAction-put, rounds-more, rounds-none}
-
--- ---- the lines
-
--- what each line of a round is, each line of some rounds is
-rounds_are : (P : Command → Type 0) (seed bound : ℕ)
-    → ((round : ℕ) → round < bound → All P (round_lines round (round_at seed round)))
-    → (count : ℕ)
-    → count ≤ bound
-    → All P (rounds count seed)
-rounds_are P seed bound each zero within =
-    subst (All P) (sym (rounds-none seed)) (All-nil P)
-rounds_are P seed bound each (suc count) within =
-    let whole : rounds (suc count) seed
-    ≡ rounds count seed ++ round_lines count (round_at seed count) =
-    ap (λ n. rounds n seed) (sym (add-one count)) ∙ rounds-more count seed in
-    subst (All P) (sym whole)
-    (All-append P (rounds count seed) (round_lines count (round_at seed count))
-    (rounds_are P seed bound each count (omega arith)) (each count (omega arith)))
-
--- lines one after another
-both : (P : Command → Type 0) (a b : Command) → P a → P b → All P (a ∷ b ∷ [])
-both P a b first second = All-cons P a (b ∷ []) first (All-cons P b [] second (All-nil P))
-
--- each line of a round is a command of a script
-lines_are_commands : (round : ℕ) (what : Round) → All IsCommand (lines_of round what)
-lines_are_commands round (Round.Put side) =
-    All-cons IsCommand _ [] (IsAction-put round) (All-nil IsCommand)
-lines_are_commands round (Round.Send side) = both IsCommand _ _ tt tt
-lines_are_commands round (Round.Lose side) = both IsCommand _ _ tt tt
-lines_are_commands round Round.Reconnect =
-    All-append IsCommand (_ ∷ _ ∷ []) (_ ∷ _ ∷ []) (both IsCommand _ _ tt tt)
-    (both IsCommand _ _ tt tt)
-
-pub generated_is_script : GeneratedIsScript
-generated_is_script count seed few =
-    All-append IsCommand (rounds count seed) (Command.Settle ∷ [])
-    (rounds_are IsCommand seed count
-    (λ round below.
-    let what = round_at seed round in
-    let early : 100 * round < 2 ^ 64 = omega arith in
-    All-cons IsCommand (Command.At (100 * round)) (lines_of round what) early
-    (lines_are_commands round what))
-    count (omega arith))
-    (All-cons IsCommand Command.Settle [] tt (All-nil IsCommand))
+use Rattle.lab_gen.specs.Generator.{generated, lines_of, round_at, rounds}
+use Rattle.lab_gen.specs.Laws.{GeneratedLaws, GeneratedReleasesAll, NeverGaveUp}
+use Rattle.lab_gen.proofs.RunLemmas.{IsAction-put}
+use Rattle.lab_gen.proofs.ScriptLemmas.{both, generated_is_script, rounds_are}
 
 -- ---- what closes an end
 
