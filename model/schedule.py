@@ -244,5 +244,5 @@ def some_input(seed, modes):
         return some_capture(random)
     if mode == "gen":
         start = random.choice((random.getrandbits(64), 0, 2**64 - 1))
-        return [b"--gen", b"%d" % random.choice((1, 2, 30, 3_000)), b"%d" % start], b""
+        return [b"--gen", b"%d" % random.choice((1, 2, 30, 1_000)), b"%d" % start], b""
     return some_script(random, mode, modes)

@@ -5,7 +5,7 @@ use Rattle.agent_message.proofs.CaptureLaws.{one_reading}
 use Rattle.lab_script.specs.Lines.{lines_of}
 use Rattle.lab_cmd.specs.declared.status.Status.{Status}
 use Rattle.lab_cmd.specs.declared.words.Mode.{Mode}
-use Rattle.lab_cmd.specs.Meanings.{HasBadLine, IsDue, IsDueIn, Outputs}
+use Rattle.lab_cmd.specs.Meanings.{HasBadLine, IsDue, IsDueIn, IsDueInput, Outputs}
 use Rattle.lab_cmd.specs.Words.{Begins, IsWords, IsWordsFault}
 use Rattle.lab_cmd.proofs.ScriptLemmas.{IsFirstBad-unique, not_both}
 use Rattle.lab_cmd.proofs.WordLemmas.{IsWords-unique}
@@ -75,6 +75,7 @@ Outputs-unique Mode.Show input (Status.BadCapture fault) (Status.BadCapture othe
 Outputs-unique Mode.Show input Status.Ok _ s t x y = absurd y
 Outputs-unique Mode.Show input (Status.BadCapture fault) _ s t x y = absurd y
 Outputs-unique Mode.Show input _ _ s t x y = absurd x
+Outputs-unique (Mode.Gen rounds start) input _ _ s t x y = absurd x
 
 -- it has no line out of the grammar then
 no_bad_line : (mode : Mode) (input : List ℕ) (n : ℕ) (status : Status) (text : List ℕ)
@@ -82,27 +83,47 @@ no_bad_line : (mode : Mode) (input : List ℕ) (n : ℕ) (status : Status) (text
 no_bad_line (Mode.Plain window) input n Status.Ok text bad x = not_both n x.0 input x.1 bad
 no_bad_line (Mode.Plain window) input n _ text bad x = x
 no_bad_line Mode.Show input n status text bad x = bad
+no_bad_line (Mode.Gen rounds start) input n status text bad x = bad
 
 -- there is one line that is the first out of the grammar
 HasBadLine-unique : (mode : Mode) (input : List ℕ) (n m : ℕ)
     → HasBadLine mode n input → HasBadLine mode m input → n ≡ m
 HasBadLine-unique (Mode.Plain window) input n m x y = IsFirstBad-unique n m (lines_of input) x y
 HasBadLine-unique Mode.Show input n m x y = absurd x
+HasBadLine-unique (Mode.Gen rounds start) input n m x y = absurd x
 
--- a mode and the bytes that are left call for one status
+-- a mode that reads an input and this input call for one status
+pub IsDueInput-unique : (mode : Mode) (left : List ℕ) (a b : Status)
+    → IsDueInput mode left a → IsDueInput mode left b → a ≡ b
+IsDueInput-unique mode left Status.TooLong Status.TooLong x y = refl
+IsDueInput-unique mode left Status.TooLong _ x y = absurd (omega (arith, x, y.0))
+IsDueInput-unique mode left (Status.Script n) (Status.Script m) x y =
+    ap Status.Script (HasBadLine-unique mode left n m x.1 y.1)
+IsDueInput-unique mode left (Status.Script n) Status.TooLong x y = absurd (omega (arith, x.0, y))
+IsDueInput-unique mode left (Status.Script n) b x y =
+    absurd (no_bad_line mode left n b y.1.0 x.1 y.1.1)
+IsDueInput-unique mode left _ Status.TooLong x y = absurd (omega (arith, x.0, y))
+IsDueInput-unique mode left a (Status.Script n) x y =
+    absurd (no_bad_line mode left n a x.1.0 y.1 x.1.1)
+IsDueInput-unique mode left a b x y = Outputs-unique mode left a b x.1.0 y.1.0 x.1.1 y.1.1
+
+-- so do a mode and the bytes that are left
 IsDueIn-unique : (mode : Mode) (left : List ℕ) (a b : Status)
     → IsDueIn mode left a → IsDueIn mode left b → a ≡ b
-IsDueIn-unique mode left Status.TooLong Status.TooLong x y = refl
-IsDueIn-unique mode left Status.TooLong _ x y = absurd (omega (arith, x, y.0))
-IsDueIn-unique mode left (Status.Script n) (Status.Script m) x y =
-    ap Status.Script (HasBadLine-unique mode left n m x.1 y.1)
-IsDueIn-unique mode left (Status.Script n) Status.TooLong x y = absurd (omega (arith, x.0, y))
-IsDueIn-unique mode left (Status.Script n) b x y =
-    absurd (no_bad_line mode left n b y.1.0 x.1 y.1.1)
-IsDueIn-unique mode left _ Status.TooLong x y = absurd (omega (arith, x.0, y))
-IsDueIn-unique mode left a (Status.Script n) x y =
-    absurd (no_bad_line mode left n a x.1.0 y.1 x.1.1)
-IsDueIn-unique mode left a b x y = Outputs-unique mode left a b x.1.0 y.1.0 x.1.1 y.1.1
+IsDueIn-unique (Mode.Plain window) left a b x y = IsDueInput-unique (Mode.Plain window) left a b x y
+IsDueIn-unique Mode.Show left a b x y = IsDueInput-unique Mode.Show left a b x y
+IsDueIn-unique (Mode.Gen rounds start) left a b x y = x ∙ sym y
+
+-- what words of this mode call for
+pub IsDueIn-worded : (words : List (List ℕ)) (mode : Mode) (left : List ℕ) (due : Status)
+    → IsWords mode words → IsDue words left due → IsDueIn mode left due
+IsDueIn-worded words mode left (Status.Usage k) worded is = absurd (is.none mode worded)
+IsDueIn-worded words mode left due worded is = moved due is.0 is.1 is.2
+  where
+    moved : (due : Status) (n : Mode) → IsWords n words → IsDueIn n left due
+        → IsDueIn mode left due
+    moved due n other is =
+        subst (λ m. IsDueIn m left due) (IsWords-unique words n mode other worded) is
 
 -- so do the words and the bytes
 by_mode : (words : List (List ℕ)) (left : List ℕ) (a b : Status) (m n : Mode)

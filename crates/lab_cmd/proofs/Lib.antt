@@ -1,5 +1,6 @@
 pub mod Reading
 pub mod ScriptLemmas
 pub mod WordLemmas
+pub mod GenWordLemmas
 pub mod DueLemmas
 pub mod MeaningLemmas

@@ -18,11 +18,11 @@ use Rattle.lab_cmd.specs.declared.script.ScriptFault.{ScriptFault}
 use Rattle.lab_cmd.specs.declared.status.Status.{Status}
 use Rattle.lab_cmd.specs.declared.words.Mode.{Mode}
 use Rattle.lab_cmd.specs.Inputs.{IsLonger, ReadToEnd, max_input}
-use Rattle.lab_cmd.specs.Meanings.{HasBadLine, IsDue, IsDueIn, Means, MeansRead, Outputs, Outside, ReadsInput, WritesFront}
+use Rattle.lab_cmd.specs.Meanings.{HasBadLine, IsDue, IsDueIn, IsDueInput, IsUnread, Means, MeansInput, MeansMade, MeansRead, made_line, Outputs, Outside, ReadsInput, WritesFront}
 use Rattle.lab_cmd.specs.Script.{IsScript}
 use Rattle.lab_cmd.specs.Statuses.{status_of_input, status_of_script, status_of_show, status_of_stop}
 use Rattle.lab_cmd.specs.Words.{IsWords}
-use Rattle.lab_cmd.proofs.DueLemmas.{IsDue-unique}
+use Rattle.lab_cmd.proofs.DueLemmas.{IsDueIn-worded, IsDueInput-unique}
 
 -- what was read to the end is what was left
 pub left_from_read : (input : List ℕ) (before : Input) (told after : Option Input)
@@ -45,7 +45,7 @@ pub Means-input : (mode : Mode) (fault : InputFault) (unwritten : Type 0) (old n
     → (fault ≡ InputFault.TooLong → IsLonger max_input old.input)
     → (fault ≢ InputFault.Read → new.reads_failed ≡ old.reads_failed)
     → new.writes_failed ≡ old.writes_failed
-    → Means mode (status_of_input fault) unwritten old new
+    → MeansInput mode (status_of_input fault) unwritten old new
 Means-input mode InputFault.Read unwritten old new same failed long steady writes =
     (same, failed refl)
 Means-input mode InputFault.TooLong unwritten old new same failed long steady writes =
@@ -60,9 +60,9 @@ pub Means-read : (mode : Mode) (input : List ℕ) (status : Status) (unwritten :
     → new.reads_failed ≡ old.reads_failed
     → MeansRead mode input status unwritten old.output old.writes_failed new.output
     new.writes_failed
-    → Means mode status unwritten old new
+    → MeansInput mode status unwritten old new
 Means-read mode input status unwritten old new read same means =
-    subst (λ n. Means mode status unwritten old (record new { reads_failed = n })) (sym same)
+    subst (λ n. MeansInput mode status unwritten old (record new { reads_failed = n })) (sym same)
     (means old.input new.input old.reads_failed read)
 
 -- of an input that is no script
@@ -201,9 +201,98 @@ MeansRead-unshown input ShowStop.NoMemory unwritten output failed output_then fa
     let part = memory refl in
     (inr (front_shown input part.0 part.1 _ _ read part.2 part.3), refl, steady (λ is. cc))
 
+-- of a run that made its own script and came to its end
+pub MeansMade-ok : (line : List ℕ) (old new : Outside)
+    → IsUnread old new
+    → IsPrinted line [] old.output new.output
+    → MeansMade line Status.Ok old new
+MeansMade-ok line old new unread printed =
+    let P : List ℕ → Type 0 = λ t. Writes t old.output new.output in
+    (unread, subst P (sym (append-nil printed.0) ∙ printed.1) printed.2)
+
+-- and of one that stopped
+pub MeansMade-stop : (line : List ℕ) (stop : Stop) (old new : Outside)
+    → IsUnread old new
+    → WritesPart line old.output new.output
+    → (stop ≡ Stop.Write → Rises old.writes_failed new.writes_failed)
+    → (stop ≡ Stop.NoMemory → new.writes_failed ≡ old.writes_failed)
+    → MeansMade line (status_of_stop stop) old new
+MeansMade-stop line Stop.Write old new unread part rose steady = (unread, part, rose refl)
+MeansMade-stop line Stop.NoMemory old new unread part rose steady = (unread, part, steady refl)
+
 -- ---- which status is due
 
 -- a status that means what it says is the one that is due, where no call of the outside fails
+due_from_input : (mode : Mode) (status due : Status)
+    (unwritten : Type 0)
+    (old new : Outside) (before : Input)
+    → MeansInput mode status unwritten old new
+    → old.input ≡ Some before
+    → IsDueInput mode before.left due
+    → ¬ Rises old.reads_failed new.reads_failed
+    → ¬ Rises old.writes_failed new.writes_failed
+    → (status ≡ due) ⊎ (status ≡ Status.NoMemory)
+due_from_input mode Status.Ok due unwritten old new before m told is_due reads writes =
+    let left = left_from_read m.input before old.input new.input told m.reads.read in
+    inl (IsDueInput-unique mode before.left Status.Ok due
+    (rw left m.reads.short, (m.text, rw left m.outputs)) is_due)
+due_from_input mode (Status.BadCapture fault)
+    due unwritten old new before m told is_due reads writes =
+    let all = m.0 in
+    let left = left_from_read all.input before old.input new.input told all.reads.read in
+    inl (IsDueInput-unique mode before.left (Status.BadCapture fault) due
+    (rw left all.reads.short, (all.text, rw left all.outputs)) is_due)
+due_from_input mode Status.NoMemory due unwritten old new before m told is_due reads
+    writes =
+    inr refl
+due_from_input mode (Status.Usage k)
+    due unwritten old new before m told is_due reads writes =
+    absurd m
+due_from_input mode (Status.Script n)
+    due unwritten old new before m told is_due reads writes =
+    let b = m.1 in
+    let left = left_from_read b.0 before old.input new.input told b.1.read in
+    inl (IsDueInput-unique mode before.left (Status.Script n) due
+    (rw left b.1.short, rw left b.2) is_due)
+due_from_input mode Status.ReadFault due unwritten old new before m told is_due reads
+    writes =
+    absurd (reads m.1)
+due_from_input mode Status.WriteFault due unwritten old new before m told is_due reads
+    writes =
+    absurd (writes m.1)
+due_from_input mode
+    Status.TooLong due unwritten old new before m told is_due reads writes =
+    inl (IsDueInput-unique mode before.left Status.TooLong due
+    (longer_from_told max_input old.input before told m.1) is_due)
+
+-- so it is of a script that made itself
+due_from_made : (line : List ℕ) (status due : Status) (old new : Outside)
+    → MeansMade line status old new
+    → due ≡ Status.Ok
+    → ¬ Rises old.writes_failed new.writes_failed
+    → (status ≡ due) ⊎ (status ≡ Status.NoMemory)
+due_from_made line Status.Ok due old new m is writes = inl (sym is)
+due_from_made line Status.NoMemory due old new m is writes = inr refl
+due_from_made line Status.WriteFault due old new m is writes = absurd (writes m.2)
+due_from_made line _ due old new m is writes = absurd m
+
+-- and in each mode
+due_in_mode : (mode : Mode) (status due : Status) (unwritten : Type 0) (old new : Outside)
+    (before : Input)
+    → Means mode status unwritten old new
+    → old.input ≡ Some before
+    → IsDueIn mode before.left due
+    → ¬ Rises old.reads_failed new.reads_failed
+    → ¬ Rises old.writes_failed new.writes_failed
+    → (status ≡ due) ⊎ (status ≡ Status.NoMemory)
+due_in_mode (Mode.Plain window) status due unwritten old new before m told is_due reads writes =
+    due_from_input (Mode.Plain window) status due unwritten old new before m told is_due reads writes
+due_in_mode Mode.Show status due unwritten old new before m told is_due reads writes =
+    due_from_input Mode.Show status due unwritten old new before m told is_due reads writes
+due_in_mode (Mode.Gen rounds start) status due unwritten old new before m told is_due reads writes =
+    due_from_made (made_line rounds start) status due old new m is_due writes
+
+-- words that ask for this mode call for no faulty command line
 pub due_from_means : (words : List (List ℕ)) (mode : Mode) (status due : Status)
     (unwritten : Type 0)
     (old new : Outside) (before : Input)
@@ -214,35 +303,6 @@ pub due_from_means : (words : List (List ℕ)) (mode : Mode) (status due : Statu
     → ¬ Rises old.reads_failed new.reads_failed
     → ¬ Rises old.writes_failed new.writes_failed
     → (status ≡ due) ⊎ (status ≡ Status.NoMemory)
-due_from_means words mode Status.Ok due unwritten old new before worded m told is_due reads writes =
-    let left = left_from_read m.input before old.input new.input told m.reads.read in
-    inl (IsDue-unique words before.left Status.Ok due
-    (mode, worded, (rw left m.reads.short, (m.text, rw left m.outputs))) is_due)
-due_from_means words mode (Status.BadCapture fault)
-    due unwritten old new before worded m told is_due reads writes =
-    let all = m.0 in
-    let left = left_from_read all.input before old.input new.input told all.reads.read in
-    inl (IsDue-unique words before.left (Status.BadCapture fault) due
-    (mode, worded, (rw left all.reads.short, (all.text, rw left all.outputs))) is_due)
-due_from_means words mode Status.NoMemory due unwritten old new before worded m told is_due reads
-    writes =
-    inr refl
-due_from_means words mode (Status.Usage k)
-    due unwritten old new before worded m told is_due reads writes =
-    absurd m
-due_from_means words mode (Status.Script n)
-    due unwritten old new before worded m told is_due reads writes =
-    let b = m.1 in
-    let left = left_from_read b.0 before old.input new.input told b.1.read in
-    inl (IsDue-unique words before.left (Status.Script n) due
-    (mode, worded, (rw left b.1.short, rw left b.2)) is_due)
-due_from_means words mode Status.ReadFault due unwritten old new before worded m told is_due reads
-    writes =
-    absurd (reads m.1)
-due_from_means words mode Status.WriteFault due unwritten old new before worded m told is_due reads
-    writes =
-    absurd (writes m.1)
-due_from_means words mode
-    Status.TooLong due unwritten old new before worded m told is_due reads writes =
-    inl (IsDue-unique words before.left Status.TooLong due
-    (mode, worded, longer_from_told max_input old.input before told m.1) is_due)
+due_from_means words mode status due unwritten old new before worded m told is_due reads writes =
+    due_in_mode mode status due unwritten old new before m told
+    (IsDueIn-worded words mode before.left due worded is_due) reads writes

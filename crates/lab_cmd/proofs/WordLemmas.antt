@@ -9,6 +9,12 @@ use Rattle.lab_cmd.specs.Words.{Begins, IsMode, IsWindow, IsWords, IsWordsFault}
 options_differ : codes "--show" ≢ codes "--window"
 options_differ e = let n : 6 ≡ 8 = ap length e in omega (arith, n)
 
+pub gen_is_not_window : codes "--gen" ≢ codes "--window"
+gen_is_not_window e = let n : 5 ≡ 8 = ap length e in omega (arith, n)
+
+pub gen_is_not_show : codes "--gen" ≢ codes "--show"
+gen_is_not_show e = let n : 5 ≡ 6 = ap length e in omega (arith, n)
+
 -- `--window` and a window
 pub IsWords-window : (window : ℕ) (operands : List (List ℕ)) (number : List ℕ)
     (more : List (List ℕ))
@@ -32,12 +38,17 @@ IsWords-show words option operands front named last =
 
 -- no command line begins with another word
 not_the_option : (option : List ℕ) (operands : List (List ℕ)) (mode : Mode)
-    → option ≢ codes "--window" → option ≢ codes "--show" → IsWords mode (option ∷ operands) → ⊥
-not_the_option option operands (Mode.Plain window) other third (inl none) =
+    → option ≢ codes "--window"
+    → option ≢ codes "--show"
+    → option ≢ codes "--gen"
+    → IsWords mode (option ∷ operands) → ⊥
+not_the_option option operands (Mode.Plain window) other third fourth (inl none) =
     let e = none.0 in absurd (cc)
-not_the_option option operands (Mode.Plain window) other third (inr told) =
+not_the_option option operands (Mode.Plain window) other third fourth (inr told) =
     let e = told.0 in other (cc)
-not_the_option option operands Mode.Show other third e = third (cc)
+not_the_option option operands Mode.Show other third fourth e = third (cc)
+not_the_option option operands (Mode.Gen rounds start) other third fourth told =
+    let e = told.0 in fourth (cc)
 
 -- nor has it a second word behind `--window` that is no window
 not_a_window : (number : List ℕ) (more : List (List ℕ)) (mode : Mode)
@@ -47,12 +58,16 @@ not_a_window number more (Mode.Plain window) other (inl none) = let e = none.0 i
 not_a_window number more (Mode.Plain window) other (inr told) =
     let e = told.0 in other window told.1 (cc)
 not_a_window number more Mode.Show other e = absurd (cc)
+not_a_window number more (Mode.Gen rounds start) other told =
+    let e = told.0 in
+    let same : codes "--gen" ≡ codes "--window" = cc in gen_is_not_window same
 
 -- nor is `--window` alone one
 not_one : (mode : Mode) → IsWords mode (codes "--window" ∷ []) → ⊥
 not_one (Mode.Plain window) (inl none) = let e = none.0 in absurd (cc)
 not_one (Mode.Plain window) (inr told) = let e = told.0 in absurd (cc)
 not_one Mode.Show e = let same : codes "--show" ≡ codes "--window" = cc in options_differ same
+not_one (Mode.Gen rounds start) told = let e = told.0 in absurd (cc)
 
 -- nor has it a third word
 not_three : (number third : List ℕ) (more : List (List ℕ)) (mode : Mode)
@@ -60,6 +75,9 @@ not_three : (number third : List ℕ) (more : List (List ℕ)) (mode : Mode)
 not_three number third more (Mode.Plain window) (inl none) = let e = none.0 in absurd (cc)
 not_three number third more (Mode.Plain window) (inr told) = let e = told.0 in absurd (cc)
 not_three number third more Mode.Show e = absurd (cc)
+not_three number third more (Mode.Gen rounds start) told =
+    let e = told.0 in
+    let same : codes "--gen" ≡ codes "--window" = cc in gen_is_not_window same
 
 -- nor a word behind `--show`
 not_behind_show : (word : List ℕ) (more : List (List ℕ)) (mode : Mode)
@@ -68,6 +86,8 @@ not_behind_show word more (Mode.Plain window) (inl none) = let e = none.0 in abs
 not_behind_show word more (Mode.Plain window) (inr told) =
     let e = told.0 in let same : codes "--show" ≡ codes "--window" = cc in options_differ same
 not_behind_show word more Mode.Show e = absurd (cc)
+not_behind_show word more (Mode.Gen rounds start) told =
+    let e = told.0 in let same : codes "--gen" ≡ codes "--show" = cc in gen_is_not_show same
 
 -- what begins a command line
 one_is_a_window : IsWindow 1
@@ -86,7 +106,7 @@ Begins-show : Begins (codes "--show" ∷ [])
 Begins-show = ([], Mode.Show, refl)
 
 -- words of which the first k begin a command line, and the first k + 1 begin none
-stops_at : (words : List (List ℕ)) (k : ℕ) → Begins (take k words) → ¬ Begins (take (k + 1) words)
+pub stops_at : (words : List (List ℕ)) (k : ℕ) → Begins (take k words) → ¬ Begins (take (k + 1) words)
     → IsWordsFault words k
 stops_at words k begin stop =
     record {
@@ -102,12 +122,16 @@ stops_at words k begin stop =
 
 -- the first word is no option
 pub IsWordsFault-other : (words : List (List ℕ)) (option : List ℕ) (operands : List (List ℕ))
-    → words ≡ option ∷ operands → option ≢ codes "--window" → option ≢ codes "--show"
+    → words ≡ option ∷ operands
+    → option ≢ codes "--window"
+    → option ≢ codes "--show"
+    → option ≢ codes "--gen"
     → IsWordsFault words 0
-IsWordsFault-other words option operands front other third =
+IsWordsFault-other words option operands front other third fourth =
     let at : IsWordsFault (option ∷ operands) 0 =
     stops_at (option ∷ operands) 0 Begins-none
-    (λ (b : Begins (option ∷ [])). not_the_option option b.0 b.1 other third b.2) in
+    (λ (b : Begins (option ∷ [])). not_the_option option b.0 b.1 other third fourth b.2)
+    in
     rw front at
 
 -- there is a word behind `--show`
@@ -181,9 +205,30 @@ IsWords-unique words (Mode.Plain m) Mode.Show (inr first) second = absurd (cc (f
 IsWords-unique words Mode.Show (Mode.Plain n) first (inl second) = absurd (cc (first, second.0))
 IsWords-unique words Mode.Show (Mode.Plain n) first (inr second) = absurd (cc (first, second.0))
 IsWords-unique words Mode.Show Mode.Show first second = refl
+IsWords-unique words (Mode.Plain m) (Mode.Gen k n) (inl first) second =
+    absurd (cc (first.0, second.0))
+IsWords-unique words (Mode.Plain m) (Mode.Gen k n) (inr first) second =
+    let same : codes "--gen" ≡ codes "--window" = cc (first.0, second.0) in
+    absurd (gen_is_not_window same)
+IsWords-unique words Mode.Show (Mode.Gen k n) first second = absurd (cc (first, second.0))
+IsWords-unique words (Mode.Gen k n) (Mode.Plain m) first (inl second) =
+    absurd (cc (first.0, second.0))
+IsWords-unique words (Mode.Gen k n) (Mode.Plain m) first (inr second) =
+    let same : codes "--gen" ≡ codes "--window" = cc (first.0, second.0) in
+    absurd (gen_is_not_window same)
+IsWords-unique words (Mode.Gen k n) Mode.Show first second = absurd (cc (first.0, second))
+IsWords-unique words (Mode.Gen k n) (Mode.Gen i j) first second =
+    let rounds : k ≡ i =
+    decimal_injective k i (omega (arith, first.1)) (omega (arith, second.1))
+    (cc (first.0, second.0)) in
+    let starts : n ≡ j =
+    decimal_injective n j (omega (arith, first.2)) (omega (arith, second.2))
+    (cc (first.0, second.0)) in
+    rw (rounds, starts) refl
 
 -- the window that words ask for is in range
 pub IsMode-words : (words : List (List ℕ)) (mode : Mode) → IsWords mode words → IsMode mode
 IsMode-words words (Mode.Plain window) (inl none) = (omega (arith, none.1), omega (arith, none.1))
 IsMode-words words (Mode.Plain window) (inr told) = told.1
 IsMode-words words Mode.Show told = tt
+IsMode-words words (Mode.Gen rounds start) told = told.1

@@ -5,7 +5,10 @@ use Rattle.agent_message.specs.declared.message.Message.{Message}
 use Rattle.chan_io.specs.Faults.{Rises}
 use Rattle.chan_io.specs.Sinks.{Output, Writes, WritesPart}
 use Rattle.chan_io.specs.Sources.{Input}
+use Rattle.lab_gen.specs.Counts.{counts_line, counts_of}
+use Rattle.lab_gen.specs.Generator.{generated}
 use Rattle.lab_run.specs.Run.{report, run}
+use Rattle.lab_run.specs.Steps.{world_of}
 use Rattle.lab_script.specs.declared.command.Command.{Command}
 use Rattle.lab_script.specs.Lines.{lines_of}
 use Rattle.lab_show.specs.Lines.{show_lines}
@@ -33,6 +36,11 @@ outside input read_faults output write_faults source sink =
       writes_failed = write_faults sink;
     }
 
+-- the same, of a source that tells this and a sink that tells that
+abbrev pub beside : Option Input → ℕ → Option Output → ℕ → Outside
+beside input reads output writes =
+    record { input = input; reads_failed = reads; output = output; writes_failed = writes }
+
 -- what a mode writes of an input, and the status that comes then: the report of a script, or the lines
 -- of a capture up to its end or its fault
 abbrev pub Outputs : Mode → List ℕ → Status → List ℕ → Type 0
@@ -45,10 +53,11 @@ Outputs Mode.Show input (Status.BadCapture fault) text =
     × IsCapture input messages (Some fault) × (text ≡ show_lines 0 messages)
 Outputs mode input status text = ⊥
 
--- line n of an input is the first that is out of the grammar; a capture has no lines
+-- line n of an input is the first that is out of the grammar; only a script has lines
 abbrev pub HasBadLine : Mode → ℕ → List ℕ → Type 0
 HasBadLine (Mode.Plain window) n input = IsFirstBad n (lines_of input)
 HasBadLine Mode.Show n input = ⊥
+HasBadLine (Mode.Gen rounds start) n input = ⊥
 
 -- the source was read to its end, and this is all that was left of it
 pub record ReadsInput (input : List ℕ) (before after : Option Input) : Type 0 where
@@ -77,23 +86,51 @@ pub record WritesFront (mode : Mode) (old new : Outside) : Type 0 where
   pub outputs : Outputs mode input status text
   pub written : WritesPart text old.output new.output
 
--- what a status says in a mode. `unwritten` says that the sink is what it was.
-abbrev pub Means : Mode → Status → Type 0 → Outside → Outside → Type 0
-Means mode Status.Ok unwritten old new = WritesAll mode Status.Ok old new
-Means mode (Status.BadCapture fault) unwritten old new =
+-- what a status says of an input in a mode that reads one. `unwritten` says that the sink is what it
+-- was.
+abbrev pub MeansInput : Mode → Status → Type 0 → Outside → Outside → Type 0
+MeansInput mode Status.Ok unwritten old new = WritesAll mode Status.Ok old new
+MeansInput mode (Status.BadCapture fault) unwritten old new =
     WritesAll mode (Status.BadCapture fault) old new × (new.writes_failed ≡ old.writes_failed)
-Means mode Status.NoMemory unwritten old new =
+MeansInput mode Status.NoMemory unwritten old new =
     (unwritten ⊎ WritesFront mode old new)
     × (new.reads_failed ≡ old.reads_failed)
     × (new.writes_failed ≡ old.writes_failed)
-Means mode (Status.Usage k) unwritten old new = ⊥
-Means mode (Status.Script n) unwritten old new =
+MeansInput mode (Status.Usage k) unwritten old new = ⊥
+MeansInput mode (Status.Script n) unwritten old new =
     unwritten × ReadsBadLine mode n old.input new.input
-Means mode Status.ReadFault unwritten old new =
+MeansInput mode Status.ReadFault unwritten old new =
     unwritten × Rises old.reads_failed new.reads_failed
-Means mode Status.WriteFault unwritten old new =
+MeansInput mode Status.WriteFault unwritten old new =
     WritesFront mode old new × Rises old.writes_failed new.writes_failed
-Means mode Status.TooLong unwritten old new = unwritten × IsLonger max_input old.input
+MeansInput mode Status.TooLong unwritten old new = unwritten × IsLonger max_input old.input
+
+-- the line of the run of a script that made itself
+abbrev pub made_line : ℕ → ℕ → List ℕ
+made_line rounds start = counts_line rounds (counts_of (world_of (run 10000 (generated rounds start))))
+
+-- nothing was read
+abbrev pub IsUnread : Outside → Outside → Type 0
+IsUnread old new = (new.input ≡ old.input) × (new.reads_failed ≡ old.reads_failed)
+
+-- what a status says of a run that writes this line and reads nothing
+abbrev pub MeansMade : List ℕ → Status → Outside → Outside → Type 0
+MeansMade line Status.Ok old new = IsUnread old new × Writes line old.output new.output
+MeansMade line Status.NoMemory old new =
+    IsUnread old new
+    × WritesPart line old.output new.output
+    × (new.writes_failed ≡ old.writes_failed)
+MeansMade line Status.WriteFault old new =
+    IsUnread old new
+    × WritesPart line old.output new.output
+    × Rises old.writes_failed new.writes_failed
+MeansMade line status old new = ⊥
+
+-- what a status says in a mode
+abbrev pub Means : Mode → Status → Type 0 → Outside → Outside → Type 0
+Means (Mode.Gen rounds start) status unwritten old new =
+    MeansMade (made_line rounds start) status old new
+Means mode status unwritten old new = MeansInput mode status unwritten old new
 
 -- what a status says of what was done with an input, where this was read to the end of the source
 abbrev pub MeansRead : Mode → List ℕ → Status → Type 0
@@ -101,7 +138,7 @@ abbrev pub MeansRead : Mode → List ℕ → Status → Type 0
 MeansRead mode input status unwritten output failed output_then failed_then =
     (before after : Option Input) (reads : ℕ)
     → ReadsInput input before after
-    → Means mode status unwritten
+    → MeansInput mode status unwritten
     (record {
       input = before;
       reads_failed = reads;
@@ -115,12 +152,17 @@ MeansRead mode input status unwritten output failed output_then failed_then =
       writes_failed = failed_then;
     })
 
--- the status that the bytes that are left call for in a mode, where no call of the outside fails
-abbrev pub IsDueIn : Mode → List ℕ → Status → Type 0
-IsDueIn mode left Status.TooLong = max_input < length left
-IsDueIn mode left (Status.Script n) = (length left ≤ max_input) × HasBadLine mode n left
-IsDueIn mode left status =
+-- the status that an input calls for in a mode that reads one, where no call of the outside fails
+abbrev pub IsDueInput : Mode → List ℕ → Status → Type 0
+IsDueInput mode left Status.TooLong = max_input < length left
+IsDueInput mode left (Status.Script n) = (length left ≤ max_input) × HasBadLine mode n left
+IsDueInput mode left status =
     (length left ≤ max_input) × ((text : List ℕ) × Outputs mode left status text)
+
+-- the status that the bytes that are left call for in a mode; a script that makes itself reads none
+abbrev pub IsDueIn : Mode → List ℕ → Status → Type 0
+IsDueIn (Mode.Gen rounds start) left status = status ≡ Status.Ok
+IsDueIn mode left status = IsDueInput mode left status
 
 -- the status that the words and the bytes that are left call for
 abbrev pub IsDue : List (List ℕ) → List ℕ → Status → Type 0

@@ -1,5 +1,5 @@
 -- The words behind the program's name.
-use Rattle.std.specs.Prelude.{◌≡◌, ℕ, ◌+◌, ◌≤◌, ◌⊎◌, List, [], ◌∷◌, ◌++◌, length, take, codes, decimal, ⊤}
+use Rattle.std.specs.Prelude.{◌≡◌, ℕ, ◌+◌, ◌^◌, ◌<◌, ◌≤◌, ◌⊎◌, List, [], ◌∷◌, ◌++◌, length, take, codes, decimal, ⊤}
 use Rattle.chan_values.specs.Limits.{max_window}
 use Rattle.lab_cmd.specs.declared.words.Mode.{Mode}
 
@@ -7,10 +7,15 @@ use Rattle.lab_cmd.specs.declared.words.Mode.{Mode}
 abbrev pub IsWindow : ℕ → Type 0
 IsWindow window = (1 ≤ window) × (window ≤ max_window)
 
+-- a script that makes itself has 1 to 1,000,000 rounds
+abbrev pub IsRounds : ℕ → Type 0
+IsRounds rounds = (1 ≤ rounds) × (rounds ≤ 1000000)
+
 -- the numbers of a mode are in range
 abbrev pub IsMode : Mode → Type 0
 IsMode (Mode.Plain window) = IsWindow window
 IsMode Mode.Show = ⊤
+IsMode (Mode.Gen rounds start) = IsRounds rounds
 
 -- the words are these, and the window is 10,000; or `--window` and the window stand before these
 abbrev pub AsksWindow : ℕ → List (List ℕ) → List (List ℕ) → Type 0
@@ -22,6 +27,10 @@ AsksWindow window more words =
 abbrev pub IsWords : Mode → List (List ℕ) → Type 0
 IsWords (Mode.Plain window) words = AsksWindow window [] words
 IsWords Mode.Show words = words ≡ codes "--show" ∷ []
+IsWords (Mode.Gen rounds start) words =
+    (words ≡ codes "--gen" ∷ decimal rounds ∷ decimal start ∷ [])
+    × IsRounds rounds
+    × (start < 2 ^ 64)
 
 -- some words more make a command line of these
 abbrev pub Begins : List (List ℕ) → Type 0

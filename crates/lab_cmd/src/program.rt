@@ -1,15 +1,16 @@
 //! The program `lab`.
 
-ghost use Rattle.std.specs.Prelude.{◌≡◌, ◌+◌, ◌≤◌, ◌⊎◌, ◌↔◌, ℕ, Some};
+ghost use Rattle.std.specs.Prelude.{◌≡◌, ◌+◌, ◌≤◌, ◌⊎◌, ◌↔◌, ℕ, Option, Some};
 ghost use Rattle.chan_io.specs.Faults.{Rises};
 ghost use Rattle.chan_io.specs.Sources.{Input};
+ghost use Rattle.lab_gen.specs.Laws.{GeneratedLaws};
 ghost use Rattle.lab_run.specs.Laws.{ScriptLaws};
 ghost use Rattle.lab_cmd.specs.declared.status.Status.{Status};
 ghost use Rattle.lab_cmd.specs.declared.words.Mode.{Mode};
 ghost use Rattle.lab_cmd.specs.Inputs.{GivesAtMost, max_input};
-ghost use Rattle.lab_cmd.specs.Meanings.{IsDue, Means, MeansRead, outside};
+ghost use Rattle.lab_cmd.specs.Meanings.{IsDue, Means, MeansMade, MeansRead, beside, made_line, outside};
 ghost use Rattle.lab_cmd.specs.Statuses.{status_of};
-ghost use Rattle.lab_cmd.specs.Words.{IsMode, IsWindow, IsWords, IsWordsFault};
+ghost use Rattle.lab_cmd.specs.Words.{IsMode, IsRounds, IsWindow, IsWords, IsWordsFault};
 
 use crate::input::read_input;
 use crate::script::read_script;
@@ -17,13 +18,14 @@ use crate::status::Status;
 use crate::words::{Mode, read_words};
 use chan_io::{Sink, Source};
 use chan_values::Word;
+use lab_gen::run_generated;
 use lab_run::run;
 use lab_show::show;
 use std::alloc::Global;
 
 /// Reads a script from the source, runs it on a plugin's end and an agent's end, and writes the
-/// report of the run to the sink; or reads a capture, and writes a line for each of its messages.
-/// Nothing is read or written where the words are no command line, and nothing is written before the
+/// report of the run to the sink; or reads a capture, and writes a line for each of its messages; or
+/// reads nothing, runs a script that makes itself, and writes one line. Nothing is read or written where the words are no command line, and nothing is written before the
 /// whole input was read and a script judged.
 ///
 /// `means` says what each other status means in the mode that the words ask for. Where no call of the
@@ -47,6 +49,7 @@ pub fn lab<S: Source, K: Sink>(
         → ¬ Rises (K.faults sink.old) (K.faults sink.new)
         → (result ≡ due) ⊎ (result ≡ Status.NoMemory) }
     ensures laws { ScriptLaws }
+    ensures generated { GeneratedLaws }
     ensures bounded { GivesAtMost (max_input + 1) (S.input source.old) (S.input source.new) }
     ensures reads_counted { S.faults source.old ≤ S.faults source.new }
     ensures writes_counted { K.faults sink.old ≤ K.faults sink.new }
@@ -75,10 +78,16 @@ fn run_mode<S: Source, K: Sink>(
     ensures reads_counted { S.faults source.old ≤ S.faults source.new }
     ensures writes_counted { K.faults sink.old ≤ K.faults sink.new }
 {
-    let input = read_input(alloc, source)?;
     match mode {
-        Mode::Plain { window } => report(alloc, window, &input, sink),
-        Mode::Show => list(alloc, &input, sink),
+        Mode::Plain { window } => {
+            let input = read_input(alloc, source)?;
+            report(alloc, window, &input, sink)
+        }
+        Mode::Show => {
+            let input = read_input(alloc, source)?;
+            list(alloc, &input, sink)
+        }
+        Mode::Gen { rounds, start } => generate(alloc, rounds, start, sink),
     }
 }
 
@@ -101,5 +110,23 @@ fn list<K: Sink>(alloc: Global, input: &[u8], sink: &mut K) -> Result<(), Status
     ensures counted { K.faults sink.old ≤ K.faults sink.new }
 {
     show(alloc, input, sink)?;
+    Ok(())
+}
+
+/// Runs a script that makes itself, and writes its line.
+fn generate<K: Sink>(
+    alloc: Global,
+    rounds: u64,
+    start: u64,
+    sink: &mut K,
+) -> Result<(), Status>
+    requires { IsRounds rounds }
+    ensures means { (input : Option Input) (reads : ℕ)
+        → let at = beside input reads in
+        MeansMade (made_line rounds start) (status_of result)
+        (at (K.output sink.old) (K.faults sink.old)) (at (K.output sink.new) (K.faults sink.new)) }
+    ensures counted { K.faults sink.old ≤ K.faults sink.new }
+{
+    run_generated(alloc, rounds, start, sink)?;
     Ok(())
 }

@@ -1,9 +1,10 @@
 //! The words behind the program's name.
 
 ghost use Rattle.std.specs.Prelude.{◌≡◌, ◌≢◌, ◌∷◌, codes, ℕ, IfOk, IfErr, IfSome, IfNone, decimal};
-ghost use Rattle.lab_cmd.specs.Words.{IsWindow, IsWords, IsWordsFault};
+ghost use Rattle.lab_cmd.specs.Words.{IsRounds, IsWindow, IsWords, IsWordsFault};
 
 use chan_values::{MAX_WINDOW, Word};
+use lab_gen::MAX_ROUNDS;
 use lab_script::read_number;
 
 /// The window of both ends where no word says another.
@@ -16,6 +17,8 @@ pub enum Mode {
     Plain { window: u64 },
     /// To list the messages of the capture that the input is.
     Show,
+    /// To run a script that makes itself in so many rounds from a start.
+    Gen { rounds: u64, start: u64 },
 }
 
 /// The mode that the words ask for, or the number of words that still begin a command line.
@@ -30,6 +33,9 @@ pub fn read_words(words: &[Word]) -> Result<Mode, u64>
     };
     if option.as_str() == "--window" {
         return read_windowed(operands);
+    }
+    if option.as_str() == "--gen" {
+        return read_generated(operands);
     }
     if option.as_str() != "--show" {
         return Err(0);
@@ -66,4 +72,40 @@ fn read_window(word: &Word) -> Option<u64>
         return None;
     }
     Some(window)
+}
+
+/// The mode that `--gen` and these words ask for, or the number of words, `--gen` among them, that still
+/// begin a command line.
+fn read_generated(operands: &[Word]) -> Result<Mode, u64>
+    ensures mode { IfOk result (λ mode. IsWords mode (codes "--gen" ∷ operands.now)) }
+    ensures fault { IfErr result (λ k. IsWordsFault (codes "--gen" ∷ operands.now) k) }
+{
+    let Some((count, more)) = operands.split_first() else {
+        return Err(1);
+    };
+    let Some(rounds) = read_rounds(count) else {
+        return Err(1);
+    };
+    let Some((first, rest)) = more.split_first() else {
+        return Err(2);
+    };
+    let Some(start) = read_number(first.as_str().as_bytes()) else {
+        return Err(2);
+    };
+    if !rest.is_empty() {
+        return Err(3);
+    }
+    Ok(Mode::Gen { rounds, start })
+}
+
+/// The number of rounds that a word says.
+fn read_rounds(word: &Word) -> Option<u64>
+    ensures found { IfSome result (λ n. IsRounds n × (decimal n ≡ word.now)) }
+    ensures none { IfNone result ((n : ℕ) → IsRounds n → decimal n ≢ word.now) }
+{
+    let rounds = read_number(word.as_str().as_bytes())?;
+    if rounds == 0 || rounds > MAX_ROUNDS {
+        return None;
+    }
+    Some(rounds)
 }

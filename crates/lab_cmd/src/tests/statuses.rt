@@ -4,6 +4,7 @@ use super::{run, run_with};
 use crate::{Status, lab};
 use agent_message::{CaptureCause, CaptureFault};
 use chan_io::{FaultySink, FaultySource};
+use chan_values::Word;
 use std::test::Fail;
 
 #[test]
@@ -28,6 +29,12 @@ fn a_faulty_command_line_is_told_by_its_place(rt: HostRuntime) -> Result<(), Fai
         ("--window +1", 1),
         ("--window 1 2", 2),
         ("--window 1 --window 1", 2),
+        ("--gen", 1),
+        ("--gen 0 1", 1),
+        ("--gen 1000001 1", 1),
+        ("--gen 5", 2),
+        ("--gen 5 18446744073709551616", 2),
+        ("--gen 5 7 9", 3),
         ("--window 1 --show", 2),
         ("--show 1", 1),
         ("--show --window 1", 1),
@@ -128,5 +135,24 @@ fn a_status_is_told_by_its_line(rt: HostRuntime) -> Result<(), Fail> {
         let text = format!(in rt.alloc(); "{status}")?;
         assert!(rt; text.as_str() == line, "{text}");
     }
+    Ok(())
+}
+
+#[test]
+fn a_script_that_makes_itself_reads_nothing(rt: HostRuntime) -> Result<(), Fail> {
+    let alloc = rt.alloc();
+    let mut words = Vec::new(alloc);
+    for word in "--gen 1 3".split_whitespace() {
+        words.push(Word::new(String::from_str(alloc, word)?))?;
+    }
+    // The first read would fail.
+    let mut source = FaultySource::new(Vec::new(alloc), vec![in alloc; 0u64; 1]?);
+    let mut sink = FaultySink::new(alloc, Vec::new(alloc));
+    let status = lab(alloc, &words, &mut source, &mut sink);
+    assert!(rt; status == Status::Ok, "{status}");
+    assert!(rt;
+        sink.taken() == b"gen 1 put P 1 A 0 released A 1 P 0\n".as_slice(),
+        "the line"
+    );
     Ok(())
 }

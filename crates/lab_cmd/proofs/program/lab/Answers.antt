@@ -1,5 +1,6 @@
 use Rattle.std.proofs.Common.{◌≡◌, inl, inr, ap, subst}
 use Rattle.lab_run.proofs.LawLemmas.{script_laws}
+use Rattle.lab_gen.proofs.LawLemmas.{generated_laws}
 use Rattle.lab_cmd.specs.declared.status.Status.{Status}
 use Rattle.lab_cmd.specs.Meanings.{outside}
 use Rattle.lab_cmd.specs.Words.{IsWordsFault}
@@ -16,6 +17,15 @@ returns-in-Ok-run_mode-clause-laws g c = script_laws
 
 pub returns-in-Err-run_mode-clause-laws : goal.returns-in-Err-run_mode-clause-laws
 returns-in-Err-run_mode-clause-laws g c = script_laws
+
+pub returns-in-Err-clause-generated : goal.returns-in-Err-clause-generated
+returns-in-Err-clause-generated g c = generated_laws
+
+pub returns-in-Ok-run_mode-clause-generated : goal.returns-in-Ok-run_mode-clause-generated
+returns-in-Ok-run_mode-clause-generated g c = generated_laws
+
+pub returns-in-Err-run_mode-clause-generated : goal.returns-in-Err-run_mode-clause-generated
+returns-in-Err-run_mode-clause-generated g c = generated_laws
 
 -- the words are no command line
 

@@ -6,8 +6,9 @@ pub returns-then-ne-clause-fault : goal.returns-then-ne-clause-fault
 returns-then-ne-clause-fault c =
     let other : c.in-Some.option.now ≢ codes "--window" = search rules in
     let third : c.in-Some.option.now ≢ codes "--show" = search rules in
+    let fourth : c.in-Some.option.now ≢ codes "--gen" = search rules in
     IsWordsFault-other c.args.words.now c.in-Some.option.now c.in-Some.operands.now
-    c.in-Some.ensures.cases.0 other third
+    c.in-Some.ensures.cases.0 other third fourth
 
 pub returns-then-not-is_empty-clause-fault : goal.returns-then-not-is_empty-clause-fault
 returns-then-not-is_empty-clause-fault c =
