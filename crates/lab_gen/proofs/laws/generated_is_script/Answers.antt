@@ -1,4 +1,4 @@
-use Rattle.lab_gen.proofs.LawLemmas.{generated_is_script}
+use Rattle.lab_gen.proofs.ScriptLemmas.{generated_is_script}
 use Rattle.lab_gen.proofs.laws.generated_is_script.Goals as goal
 
 pub returns : goal.returns
