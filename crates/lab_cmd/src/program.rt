@@ -114,12 +114,7 @@ fn list<K: Sink>(alloc: Global, input: &[u8], sink: &mut K) -> Result<(), Status
 }
 
 /// Runs a script that makes itself, and writes its line.
-fn generate<K: Sink>(
-    alloc: Global,
-    rounds: u64,
-    start: u64,
-    sink: &mut K,
-) -> Result<(), Status>
+fn generate<K: Sink>(alloc: Global, rounds: u64, start: u64, sink: &mut K) -> Result<(), Status>
     requires { IsRounds rounds }
     ensures means { (input : Option Input) (reads : ℕ)
         → let at = beside input reads in
