@@ -10,7 +10,8 @@ use Rattle.agent_message.specs.Names.{IsPublication, IsWrongAt, name_of}
 use Rattle.agent_message.specs.Refusals.{HasFault, IsFaultlessBelow, Refuses, number_of}
 use Rattle.agent_message.specs.declared.message.Message.{Message}
 use Rattle.agent_message.specs.declared.refusal.Refusal.{Refusal}
-use Rattle.agent_message.proofs.Faults.{past_digest, sound_has_no_fault}
+use Rattle.agent_message.proofs.Faults.{past_digest}
+use Rattle.agent_message.proofs.SoundSpelling.{sound_has_no_fault}
 use Rattle.agent_message.proofs.Spelling.{Decodes-canonical, only_message}
 use Rattle.lab_run.specs.Damage.{damaged}
 

@@ -12,7 +12,8 @@ use Rattle.agent_message.specs.Names.{IsPublication}
 use Rattle.agent_message.specs.Refusals.{HasFault, Refuses}
 use Rattle.agent_message.specs.declared.message.Message.{Message}
 use Rattle.agent_message.specs.declared.refusal.Refusal.{Refusal}
-use Rattle.agent_message.proofs.Faults.{one_answer, same_or_not}
+use Rattle.agent_message.proofs.Faults.{same_or_not}
+use Rattle.agent_message.proofs.SoundSpelling.{one_answer}
 use Rattle.agent_message.proofs.Spelling.{Decodes-canonical, only_message}
 use Rattle.channel_core.specs.Arrival.{Answer, Arrives, Hears, IsAnswer}
 use Rattle.channel_core.specs.Wire.{encoding, message_of}
