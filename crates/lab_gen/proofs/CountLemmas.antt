@@ -1,5 +1,5 @@
 -- What an end tells of itself is how much was put in and released.
-use Rattle.std.proofs.Common.{◌≡◌, ℕ, ◌+◌, ◌-◌, ◌<◌, ◌≤◌, zero, suc, ⊎_elim, Option, Some, List, length, refl, sym, ap, ◌∙◌, arith}
+use Rattle.std.proofs.Common.{◌≡◌, ℕ, ◌+◌, ◌-◌, ◌<◌, ◌≤◌, zero, suc, Option, Some, List, length, refl, sym, ap, ◌∙◌, arith}
 use Rattle.std.specs.List.{filter_map, range_with_len}
 use Rattle.std.proofs.lemmas.List.{length-map}
 use Rattle.chan_values.specs.declared.item.Item.{Item}
@@ -13,7 +13,7 @@ use Rattle.channel_core.specs.Numbers.{numbers_of}
 use Rattle.channel_core.specs.Stands.{EndState, Follows, Stands}
 use Rattle.channel_core.proofs.DeliveryLemmas.{released_is_in_order}
 use Rattle.channel_core.proofs.ItemLemmas.{item_with-there}
-use Rattle.channel_core.proofs.LegalLemmas.{IsLegal-pushed}
+use Rattle.channel_core.proofs.LegalLemmas.{IsLegal-pushed, answered_cases}
 use Rattle.channel_core.proofs.NumberLemmas.{least_absent-is}
 
 -- a function that gives something at each number of a range gives as much as the range is long
@@ -49,8 +49,9 @@ looked : (w : ℕ) (h : List Entry) (end : EndState) (look : Look)
 looked w h end look legal stands follows =
     let entry : Entry = record { call = EndCall.Look; answer = EndAnswer.Look look } in
     let answered = (IsLegal-pushed w h entry (follows w h legal stands).0).1 in
-    ⊎_elim (λ (is : EndAnswer.Look look ≡ EndAnswer.Look (look_at w h)). cc) (λ no. absurd no)
-    answered
+    answered_cases w h EndCall.Look (EndAnswer.Look look) answered
+    (λ (is : EndAnswer.Look look ≡ EndAnswer.Look (look_at w h)). cc)
+    (λ no. absurd no)
 
 -- how much was put in
 pub put_by : (w : ℕ) (h : List Entry) (end : EndState) (look : Look)
