@@ -1,3 +1,11 @@
+pub mod Calls
+pub mod Dials
+pub mod Draws
+pub mod Ends
 pub mod Faults
+pub mod Jobs
+pub mod LinksIn
+pub mod LinksOut
 pub mod Sinks
 pub mod Sources
+pub mod Starts

@@ -1,0 +1,24 @@
+-- The dials of a link.
+use Rattle.std.specs.Prelude.{◌≡◌, ℕ, Option, Some, None, List, [], ◌∷◌, ◌++◌, Result, Ok, Err}
+use Rattle.chan_io.specs.declared.dial.Dial.{Dial}
+use Rattle.chan_io.specs.declared.failed.IoFault.{IoFault}
+
+-- a dialer in memory: its dials, and how many of them failed
+pub record MemoryDialer : Type 0 where
+  pub dials : List Dial
+  pub faults : ℕ
+
+-- a dial with this reply, or that failed
+abbrev pub dial_with : List ℕ → Option (List ℕ) → Dial
+dial_with opening reply = record { opening = opening; reply = reply }
+
+-- what a dial adds: itself, with its reply or as failed; nothing at want of memory
+abbrev pub dialed_by : List ℕ → Result (List ℕ) IoFault → List Dial
+dialed_by opening (Ok reply) = dial_with opening (Some reply) ∷ []
+dialed_by opening (Err IoFault.Failed) = dial_with opening None ∷ []
+dialed_by opening (Err IoFault.NoMemory) = []
+
+-- the dial stands behind those before
+abbrev pub Dials : List ℕ → Result (List ℕ) IoFault → Option (List Dial) → Option (List Dial) → Type 0
+Dials opening result None after = after ≡ None
+Dials opening result (Some before) after = after ≡ Some (before ++ dialed_by opening result)

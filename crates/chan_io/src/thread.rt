@@ -1,0 +1,97 @@
+//! A thread for a job.
+
+ghost use Rattle.std.specs.Prelude.{◌≡◌, Bool, true, false, IfOk, IfErr};
+ghost use Rattle.chan_io.specs.Jobs.{IsRunOf};
+ghost use Rattle.chan_io.specs.Calls.{IsCallOf};
+ghost use Rattle.chan_io.specs.Ends.{EndsWell};
+
+use crate::ended::{Ended, MayEnd};
+use crate::job::Job;
+use crate::running::{Running, Work};
+use crate::running_call::{CallWork, RunningCall};
+use std::alloc::Global;
+use std::marker::PhantomData;
+use std::snapshot::Snapshot;
+use std::sync::Arc;
+use std::sync::atomic::{AtomicBool, Ordering};
+use std::thread::{Promise, Scope};
+
+/// Starts a thread for the job. Where none can be made, the job comes back.
+pub(crate) fn start_thread<'s, 'e, J: Job + 's>(
+    alloc: Global,
+    scope: &'s Scope<'s, &'e ()>,
+    job: J,
+) -> Result<Running<'s, J>, J>
+    ensures started { IfOk result (λ r. IsRunOf J.may_end job r) }
+    ensures back { IfErr result (λ j. j ≡ job) }
+{
+    let Ok(refused) = Arc::new(alloc, AtomicBool::new(false)) else {
+        return Err(job);
+    };
+    let Ok(theirs) = Arc::try_clone(&refused) else {
+        return Err(job);
+    };
+    let promise = MayEnd {
+        job: Snapshot::of(&job),
+    };
+    let run = move || -> Ended<J, J::Done>
+        ensures { EndsWell J.may_end job result }
+    {
+        if theirs.load(Ordering::SeqCst) {
+            Ended::Back(job)
+        } else {
+            Ended::Done(job.run())
+        }
+    };
+    let work = match scope.spawn_with(promise, run) {
+        Ok(handle) => Work::Thread(handle),
+        Err(error) => {
+            refused.store(true, Ordering::SeqCst);
+            match (error.value)() {
+                Ended::Back(job) => return Err(job),
+                Ended::Done(done) => Work::Finished(done),
+            }
+        }
+    };
+    Ok(Running {
+        work,
+        scope: PhantomData,
+    })
+}
+
+/// Starts a thread that calls the closure with `true`. Where none can be made, it is called with `false` here.
+pub(crate) fn call_in_thread<
+    's,
+    'e,
+    T: Send + Drop + 's,
+    F: FnOnce(bool) -> T + Send + Drop + 's,
+    P: Promise<T> + Drop + 's,
+>(alloc: Global, scope: &'s Scope<'s, &'e ()>, promise: P, call: F) -> Result<RunningCall<T, P>, T>
+    requires runs { (b : Bool) → F.pre call b }
+    requires keeps { (b : Bool) (r : T) → F.post call b r → P.kept_by promise r }
+    ensures started { IfOk result (IsCallOf P.kept_by promise) }
+    ensures back { IfErr result (λ r. (b : Bool) × F.post call b r) }
+{
+    let Ok(refused) = Arc::new(alloc, AtomicBool::new(false)) else {
+        return Err(call(false));
+    };
+    let Ok(theirs) = Arc::try_clone(&refused) else {
+        return Err(call(false));
+    };
+    let run = move || -> T
+        requires { (b : Bool) → F.pre call b }
+        ensures { (b : Bool) × F.post call b result }
+    {
+        let runs = !theirs.load(Ordering::SeqCst);
+        call(runs)
+    };
+    match scope.spawn_with(promise, run) {
+        Ok(handle) => Ok(RunningCall {
+            work: CallWork::Thread(handle),
+        }),
+        Err(error) => {
+            refused.store(true, Ordering::SeqCst);
+            Err((error.value)())
+        }
+    }
+}
