@@ -1,7 +1,7 @@
 //! Which calls of a fake fail.
 
 ghost use Rattle.std.specs.Prelude.{◌≡◌, ◌≤◌};
-ghost use Rattle.chan_io.specs.Faults.{Rises};
+ghost use Rattle.chan_io.specs.Faults.{Merges, Rises};
 
 use std::marker::Model;
 
@@ -49,6 +49,14 @@ impl Failing {
         ensures counted { self.old ≤ self.new }
     {
         self.faults = self.faults.saturating_add(1);
+    }
+
+    /// Counts the calls that failed of another.
+    pub(crate) fn merge(&mut self, other: Failing)
+        ensures merges { Merges self.old other self.new }
+        ensures counted { self.old ≤ self.new }
+    {
+        self.faults = self.faults.saturating_add(other.faults);
     }
 
     /// How many calls failed.

@@ -2,6 +2,7 @@
 
 ghost use Rattle.std.specs.Prelude.{◌≡◌};
 
+use crate::failing::Failing;
 use crate::spawner::Spawner;
 use crate::start::{NoThread, Start};
 use std::alloc::Global;
@@ -12,9 +13,7 @@ use std::marker::Model;
 #[derive(Debug, Drop)]
 pub struct FaultySpawner {
     alloc: Global,
-    failing: Vec<u64>,
-    starts: u64,
-    faults: u64,
+    failing: Failing,
 }
 
 impl Model for FaultySpawner {
@@ -22,7 +21,7 @@ impl Model for FaultySpawner {
 
     ghost Value = { ℕ };
 
-    ghost view = { λ s. s.faults };
+    ghost view = { λ s. s.failing };
 }
 
 impl FaultySpawner {
@@ -32,9 +31,7 @@ impl FaultySpawner {
     {
         FaultySpawner {
             alloc,
-            failing,
-            starts: 0,
-            faults: 0,
+            failing: Failing::new(failing),
         }
     }
 }
@@ -45,10 +42,8 @@ impl Spawner for FaultySpawner {
     ghost makes_threads = { λ _. ⊥ };
 
     fn choose(&mut self) -> Start {
-        let start = self.starts;
-        self.starts = start.saturating_add(1);
-        if self.failing.contains(&start) {
-            self.faults = self.faults.saturating_add(1);
+        if self.failing.fails() {
+            self.failing.count();
             return Start::Fail;
         }
         Start::Late
@@ -61,6 +56,6 @@ impl Spawner for FaultySpawner {
     }
 
     fn merge(&mut self, twin: FaultySpawner) {
-        self.faults = self.faults.saturating_add(twin.faults);
+        self.failing.merge(twin.failing);
     }
 }
