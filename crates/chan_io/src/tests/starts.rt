@@ -39,12 +39,13 @@ fn add_one<R: Threads + Wait + Sync, S: Spawner>(
             requires { IsSync R.row }
             ensures { IfSome result.1 (λ sum. sum ≡ number + 1) }
         {
-            let started = spawner.start(rt, scope, AddOne { number });
-            let sum = match started {
-                Ok(running) => Some(running.join(rt)),
-                Err(_) => None,
-            };
-            (spawner, sum)
+            match spawner.start(rt, scope, AddOne { number }) {
+                Ok(running) => {
+                    let sum = running.join(rt);
+                    (spawner, Some(sum))
+                }
+                Err(_) => (spawner, None),
+            }
         },
     )
 }
