@@ -1,4 +1,3 @@
-ghost use Rattle.std.specs.Prelude.{◌≡◌, ◌+◌, IfSome};
 ghost use denote.Param.Send.{IsSync};
 
 use crate::ThreadSpawner;
@@ -26,15 +25,16 @@ impl Job for AddOne {
 }
 
 /// What the job of a number ended with, where it was started.
-fn add_one<R: Threads + Wait + Sync>(rt: &R, mut spawner: ThreadSpawner, number: u32) -> Option<u64>
-    ensures { IfSome result (λ sum. sum ≡ number + 1) }
-{
+fn add_one<R: Threads + Wait + Sync>(
+    rt: &R,
+    mut spawner: ThreadSpawner,
+    number: u32,
+) -> Option<u64> {
     thread::scope(
         thread::scope_env(),
         rt,
         move |scope| -> Option<u64>
             requires { IsSync R.row }
-            ensures { IfSome result (λ sum. sum ≡ number + 1) }
         {
             match spawner.start(rt, scope, AddOne { number }) {
                 Ok(running) => Some(running.join(rt)),
