@@ -61,6 +61,23 @@ still_unfinished rest part is few =
           inr (omega arith, omega arith)
     ]
 
+-- fewer bytes than are missing leave so many less missing
+pub missing-append : (rest part : List ℕ) → length part < missing rest
+    → missing (rest ++ part) ≡ missing rest - length part
+missing-append rest part few =
+    let long = length-append rest part in
+    elim (cases_lt (length rest) 4) [
+      | inl less ↦
+          let m = missing_length rest less in
+          let n = missing_length (rest ++ part) (omega arith) in
+          omega arith
+      | inr there ↦
+          let m = missing_bytes rest there in
+          let n = missing_bytes (rest ++ part) (omega arith) in
+          let said = said_length-append rest part there in
+          omega arith
+    ]
+
 -- fewer bytes of it are unfinished too
 front_unfinished : (rest part : List ℕ) → IsUnfinished (rest ++ part) → IsUnfinished rest
 front_unfinished rest part is =

@@ -1,6 +1,6 @@
 //! The reader of a capture.
 
-ghost use Rattle.std.specs.Prelude.{◌≡◌, ℕ, ◌+◌, ◌-◌, ◌<◌, ◌≤◌, List, [], ◌++◌, length, IfOk, IfSome, IsOkAnd, OnErr, None, Some, option_to_list};
+ghost use Rattle.std.specs.Prelude.{◌≡◌, ℕ, ◌+◌, ◌-◌, ◌<◌, ◌≤◌, List, [], ◌++◌, length, IfOk, IfSome, IsOkAnd, OnOk, OnErr, None, Some, option_to_list};
 ghost use Rattle.agent_message.specs.Captures.{IsCapture};
 ghost use Rattle.agent_message.specs.CaptureReading.{StandsFor, missing};
 ghost use Rattle.agent_message.specs.declared.message.Message.{Message};
@@ -33,17 +33,20 @@ pub struct CaptureReader {
     // Where that piece begins.
     start: u64,
     fault: Option<CaptureFault>,
+    // A part with fewer bytes leaves that piece unfinished. 0 where that is not known.
+    wants: usize,
 }
 
 impl Model for CaptureReader {
-    ghost use Rattle.std.specs.Prelude.{◌<◌};
+    ghost use Rattle.std.specs.Prelude.{◌≡◌, ◌<◌, None};
     ghost use Rattle.agent_message.specs.CaptureReading.{Pending, missing};
 
     ghost Value = { Pending };
 
     ghost view = { λ r. record { rest = r.rest.items; start = r.start; fault = r.fault } };
 
-    ghost invariant = { λ r. 0 < missing r.rest.items };
+    ghost invariant = { λ r. (0 < missing r.rest.items)
+        × (0 < r.wants → (r.fault ≡ None) × (r.wants ≡ missing r.rest.items)) };
 }
 
 impl CaptureReader {
@@ -56,6 +59,7 @@ impl CaptureReader {
             rest: Vec::new(alloc),
             start: 0,
             fault: None,
+            wants: SIZE_LENGTH,
         }
     }
 
@@ -70,11 +74,15 @@ impl CaptureReader {
             (captured.fault ≡ Some fault) × (captured.messages ≡ []))) }
         ensures err { OnErr result (self.new ≡ self.old) }
     {
-        if self.fault.is_some() {
-            return Ok(self.nothing());
+        if bytes.len() < self.wants {
+            append(&mut self.rest, bytes)?;
+            self.wants -= bytes.len();
+            return Ok(Captured {
+                messages: Messages::none(self.alloc),
+                fault: None,
+            });
         }
-        if bytes.len() < self.missing() {
-            self.rest.extend_from_slice(bytes)?;
+        if self.fault.is_some() {
             return Ok(self.nothing());
         }
         self.read(bytes)
@@ -113,6 +121,7 @@ impl CaptureReader {
             }
             coming = behind;
         }
+        reader.settle();
         let fault = reader.fault;
         *self = reader;
         Ok(Captured {
@@ -131,6 +140,7 @@ impl CaptureReader {
             StandsFor self.new (before ++ part.now) (given ++ option_to_list whole)) }
     {
         let have = self.rest.len();
+        self.wants = 0;
         self.rest.extend_from_slice(part)?;
         match front_of(self.alloc, &self.rest) {
             Err(NoMemory) => {
@@ -166,6 +176,17 @@ impl CaptureReader {
         whole.saturating_sub(have)
     }
 
+    /// Finds how many bytes the coming piece lacks, where no fault was shown.
+    fn settle(&mut self)
+        ensures { self.new ≡ self.old }
+    {
+        self.wants = if self.fault.is_some() {
+            0
+        } else {
+            self.missing()
+        };
+    }
+
     /// No messages, and the fault that was shown.
     fn nothing(&self) -> Captured
         ensures messages { result.messages ≡ [] }
@@ -187,6 +208,19 @@ impl CaptureReader {
             rest,
             start: self.start,
             fault: self.fault,
+            wants: 0,
         })
     }
+}
+
+/// Puts bytes behind others; a single byte goes a shorter way.
+fn append(rest: &mut Vec<u8>, bytes: &[u8]) -> Result<(), NoMemory>
+    ensures ok { OnOk result (rest.new.items ≡ rest.old.items ++ bytes.now) }
+    ensures err { OnErr result (rest.new.items ≡ rest.old.items) }
+{
+    match bytes {
+        [byte] => rest.push(*byte)?,
+        _ => rest.extend_from_slice(bytes)?,
+    }
+    Ok(())
 }

@@ -72,4 +72,4 @@ returns-clause-read c before given s =
           sym (append-nil a.0) ∙ ap (λ bytes. a.0 ++ bytes) (sym none) ∙ a.1 in
           subst (λ bytes. StandsFor reader (before ++ bytes) (given ++ ms)) all now
     ] in
-    rw (c.reader.view_is, c.new.ensures) whole
+    rw (c.reader-2.view_is, c.settle.ensures, c.new.ensures) whole
