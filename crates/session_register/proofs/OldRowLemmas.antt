@@ -10,7 +10,7 @@ use Rattle.session_register.specs.declared.row.Row.{Row}
 use Rattle.session_register.specs.declared.row.OldRow.{OldRow}
 use Rattle.session_register.specs.Names.{same_name}
 use Rattle.session_register.specs.Rows.{Entry, IsAnswered, greatest, old_row_of, row_of, session_of, uncounted, upgraded}
-use Rattle.session_register.specs.Chains.{AreAnswered, ChainsGoOn, GoesOn, Shows, gives_again, gives_new, is_ended, opening_count, row_told, tokens_given}
+use Rattle.session_register.specs.Chains.{AreAnswered, AreUpgraded, ChainsGoOn, GoesOn, Shows, gives_again, gives_new, is_ended, opening_count, row_told, tokens_given}
 use Rattle.session_register.proofs.NameLemmas.{same_name-true}
 use Rattle.session_register.proofs.EntryLemmas.{Effect, count-push, effect, ended-push, facts, one, other-effect, tokens-push}
 use Rattle.session_register.proofs.EffectLemmas.{IsSound, IsSoundAt}
@@ -159,8 +159,7 @@ back-facts s ended (l ∷ k ∷ tp) np ip kp (m ∷ n ∷ ta) na ia ka (inr coun
     (m ∷ n ∷ ta) (counts-last m na ka counted.1 is_a i)
 
 -- the row of a session among rows that were upgraded
-row_of-upgraded : (old : List OldRow) (s : List ℕ)
-    → row_of (map upgraded old) s ≡ option_map upgraded (old_row_of old s)
+pub row_of-upgraded : (old : List OldRow) → AreUpgraded old (map upgraded old)
 row_of-upgraded [] s = refl
 row_of-upgraded (row ∷ old) s = by (same_name s row.session) (row_of-upgraded old s)
   where
@@ -183,7 +182,7 @@ answered-append from before (x ∷ xs) ys first second = (
 )
 
 pub chains-go-on : ChainsGoOn
-chains-go-on before cs old rows answered shows leads =
+chains-go-on before cs old first rows answered shows upgraded_rows leads =
     let counted : IsCounted before = counted-all (length before) [] before counted-nil answered in
     let plugin = λ (s : List ℕ). openings-before before s Plugin in
     let agent = λ (s : List ℕ). openings-before before s Agent in
@@ -191,10 +190,10 @@ chains-go-on before cs old rows answered shows leads =
     sound-by (is_ended before s) (tokens_given before s Plugin) _ _
     (tokens_given before s Agent) _ _
     (counted s) (plugin s) (agent s) in
-    let upgrades : Shows (length before) before (map upgraded old) = λ s.
-    row_of-upgraded old s ∙ ap (option_map upgraded) (shows s)
+    let upgrades : Shows (length before) before first = λ s.
+    upgraded_rows s ∙ ap (option_map upgraded) (shows s)
     ∙ back-facts s (is_ended before s) (tokens_given before s Plugin) _ _ _
     (tokens_given before s Agent) _ _ _ (counted s) (plugin s) (agent s) in
-    let later = leads-on (length before) before cs (map upgraded old) rows (omega arith) sound
+    let later = leads-on (length before) before cs first rows (omega arith) sound
     upgrades leads in
     (answered-append (length before) [] before cs answered later.0, later.1)

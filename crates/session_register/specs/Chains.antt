@@ -120,11 +120,16 @@ abbrev pub ShowsOld : List Entry → List OldRow → Type 0
 ShowsOld cs old = (session : List ℕ)
     → old_row_of old session ≡ option_map uncounted (row_told 0 cs session)
 
+-- each session has its row of those without counts, upgraded
+abbrev pub AreUpgraded : List OldRow → List Row → Type 0
+AreUpgraded old rows = (session : List ℕ)
+    → row_of rows session ≡ option_map upgraded (old_row_of old session)
+
 -- Calls made before openings were counted left rows without counts, and later calls were made over
 -- these rows, upgraded. All of them make one list: each got the answer that those before it give,
 -- where an answer Same before the place between them is not counted.
 abbrev pub ChainsGoOn : Type 0
-ChainsGoOn = (before cs : List Entry) (old : List OldRow) (rows : List Row)
+ChainsGoOn = (before cs : List Entry) (old : List OldRow) (first rows : List Row)
     → AreAnswered (length before) [] before → ShowsOld before old
-    → Leads (map upgraded old) cs rows
+    → AreUpgraded old first → Leads first cs rows
     → AreAnswered (length before) [] (before ++ cs) × Shows (length before) (before ++ cs) rows

@@ -4,6 +4,7 @@ ghost use Rattle.std.specs.Prelude.{◌≡◌, ◌≤◌, ℕ, List, Option, IfO
 ghost use Rattle.chan_io.specs.Faults.{Rises};
 ghost use Rattle.session_register.specs.declared.row.Row.{Row};
 ghost use Rattle.session_register.specs.Rows.{Finds, IsRow, Puts};
+ghost use Rattle.session_register.specs.Sessions.{HaveDifferentSessions};
 
 use crate::name::SessionName;
 use crate::row::Row;
@@ -23,6 +24,9 @@ pub trait Keeper {
         ensures found { IfOk result (λ row. Finds (rows self.old) session.now row) }
         ensures kept { IfOk result (λ row. IfSome row IsRow) }
         ensures same { rows self.new ≡ rows self.old }
+        ensures differ { IfSome (rows self.new) HaveDifferentSessions }
+        ensures steady { OnOk result (faults self.new ≡ faults self.old) }
+        ensures lacking { IsErrOf result IoFault.NoMemory → faults self.new ≡ faults self.old }
         ensures failed { IsErrOf result IoFault.Failed → Rises (faults self.old) (faults self.new) }
         ensures counted { faults self.old ≤ faults self.new };
 
@@ -31,6 +35,9 @@ pub trait Keeper {
         requires { IsRow row }
         ensures puts { OnOk result (Puts row (rows self.old) (rows self.new)) }
         ensures same { OnErr result (rows self.new ≡ rows self.old) }
+        ensures differ { IfSome (rows self.new) HaveDifferentSessions }
+        ensures steady { OnOk result (faults self.new ≡ faults self.old) }
+        ensures lacking { IsErrOf result IoFault.NoMemory → faults self.new ≡ faults self.old }
         ensures failed { IsErrOf result IoFault.Failed → Rises (faults self.old) (faults self.new) }
         ensures counted { faults self.old ≤ faults self.new };
 

@@ -20,12 +20,14 @@ impl Model for MapKeeper {
     ghost use Rattle.std.specs.Prelude.{List};
     ghost use Rattle.session_register.specs.declared.row.Row.{Row};
     ghost use Rattle.session_register.specs.MapRows.{AreNamed, IsRows, rows_in};
+    ghost use Rattle.session_register.specs.Sessions.{HaveDifferentSessions};
 
     ghost Value = { List Row };
 
     ghost view = { λ k. rows_in k.rows.entries };
 
-    ghost invariant = { λ k. AreNamed k.rows.entries × IsRows k.rows.entries };
+    ghost invariant = { λ k. AreNamed k.rows.entries × IsRows k.rows.entries
+        × HaveDifferentSessions (rows_in k.rows.entries) };
 }
 
 impl MapKeeper {

@@ -1,6 +1,6 @@
 //! The calls of the register.
 
-ghost use Rattle.std.specs.Prelude.{◌≡◌, ◌≤◌, IfOk, IsErrOf, OnErr};
+ghost use Rattle.std.specs.Prelude.{◌≡◌, ◌≤◌, IfOk, IsErrOf, OnErr, OnOk};
 ghost use Rattle.chan_io.specs.Faults.{Rises};
 ghost use Rattle.session_register.specs.Rows.{AsksEnded, Counts, Creates, Ends, Meets, Opens};
 
@@ -47,6 +47,9 @@ impl<K: Keeper + Drop> Register<K> {
         ensures meets { IfOk result (λ answer. Meets (Creates session.now plugin agent answer)
             (K.rows self.old.keeper) (K.rows self.new.keeper)) }
         ensures same { OnErr result (K.rows self.new.keeper ≡ K.rows self.old.keeper) }
+        ensures steady { OnOk result (K.faults self.new.keeper ≡ K.faults self.old.keeper) }
+        ensures lacking { IsErrOf result IoFault.NoMemory
+            → K.faults self.new.keeper ≡ K.faults self.old.keeper }
         ensures failed { IsErrOf result IoFault.Failed
             → Rises (K.faults self.old.keeper) (K.faults self.new.keeper) }
         ensures counted { K.faults self.old.keeper ≤ K.faults self.new.keeper }
@@ -78,6 +81,9 @@ impl<K: Keeper + Drop> Register<K> {
         ensures meets { IfOk result (λ answer. Meets (Opens session.now role token fresh answer)
             (K.rows self.old.keeper) (K.rows self.new.keeper)) }
         ensures same { OnErr result (K.rows self.new.keeper ≡ K.rows self.old.keeper) }
+        ensures steady { OnOk result (K.faults self.new.keeper ≡ K.faults self.old.keeper) }
+        ensures lacking { IsErrOf result IoFault.NoMemory
+            → K.faults self.new.keeper ≡ K.faults self.old.keeper }
         ensures failed { IsErrOf result IoFault.Failed
             → Rises (K.faults self.old.keeper) (K.faults self.new.keeper) }
         ensures counted { K.faults self.old.keeper ≤ K.faults self.new.keeper }
@@ -98,6 +104,9 @@ impl<K: Keeper + Drop> Register<K> {
         ensures meets { IfOk result (λ answer. Meets (Ends session.now answer)
             (K.rows self.old.keeper) (K.rows self.new.keeper)) }
         ensures same { OnErr result (K.rows self.new.keeper ≡ K.rows self.old.keeper) }
+        ensures steady { OnOk result (K.faults self.new.keeper ≡ K.faults self.old.keeper) }
+        ensures lacking { IsErrOf result IoFault.NoMemory
+            → K.faults self.new.keeper ≡ K.faults self.old.keeper }
         ensures failed { IsErrOf result IoFault.Failed
             → Rises (K.faults self.old.keeper) (K.faults self.new.keeper) }
         ensures counted { K.faults self.old.keeper ≤ K.faults self.new.keeper }
@@ -114,6 +123,9 @@ impl<K: Keeper + Drop> Register<K> {
         ensures meets { IfOk result (λ answer. Meets (AsksEnded session.now answer)
             (K.rows self.old.keeper) (K.rows self.new.keeper)) }
         ensures same { K.rows self.new.keeper ≡ K.rows self.old.keeper }
+        ensures steady { OnOk result (K.faults self.new.keeper ≡ K.faults self.old.keeper) }
+        ensures lacking { IsErrOf result IoFault.NoMemory
+            → K.faults self.new.keeper ≡ K.faults self.old.keeper }
         ensures failed { IsErrOf result IoFault.Failed
             → Rises (K.faults self.old.keeper) (K.faults self.new.keeper) }
         ensures counted { K.faults self.old.keeper ≤ K.faults self.new.keeper }
@@ -133,6 +145,9 @@ impl<K: Keeper + Drop> Register<K> {
         ensures meets { IfOk result (λ answer. Meets (Counts session.now answer)
             (K.rows self.old.keeper) (K.rows self.new.keeper)) }
         ensures same { K.rows self.new.keeper ≡ K.rows self.old.keeper }
+        ensures steady { OnOk result (K.faults self.new.keeper ≡ K.faults self.old.keeper) }
+        ensures lacking { IsErrOf result IoFault.NoMemory
+            → K.faults self.new.keeper ≡ K.faults self.old.keeper }
         ensures failed { IsErrOf result IoFault.Failed
             → Rises (K.faults self.old.keeper) (K.faults self.new.keeper) }
         ensures counted { K.faults self.old.keeper ≤ K.faults self.new.keeper }

@@ -5,6 +5,7 @@ ghost use Rattle.sqlite.specs.Steps.{over_memory};
 ghost use Rattle.chan_io.specs.Faults.{Rises};
 ghost use Rattle.session_register.specs.Kept.{AreSure, IsReady, SaysRow, rows_in, rows_told};
 ghost use Rattle.session_register.specs.Rows.{Finds, IsRow, Puts, row_of};
+ghost use Rattle.session_register.specs.Sessions.{HaveDifferentSessions};
 
 use crate::keeper::Keeper;
 use crate::name::SessionName;
@@ -92,6 +93,9 @@ impl<S: Alter + Drop> Keeper for SqliteKeeper<S> {
             → IfOk result (SaysRow S.Store self.old.store session.now) }
         ensures kept { IfOk result (λ row. IfSome row IsRow) }
         ensures same { rows_told S.Store self.new ≡ rows_told S.Store self.old }
+        ensures differ { IfSome (rows_told S.Store self.new) HaveDifferentSessions }
+        ensures steady { OnOk result (self.new.faults ≡ self.old.faults) }
+        ensures lacking { IsErrOf result IoFault.NoMemory → self.new.faults ≡ self.old.faults }
         ensures failed { IsErrOf result IoFault.Failed → Rises self.old.faults self.new.faults }
         ensures counted { self.old.faults ≤ self.new.faults }
         ensures no_store { self.old.store ≡ None → result ≡ Err IoFault.Failed }
@@ -110,6 +114,9 @@ impl<S: Alter + Drop> Keeper for SqliteKeeper<S> {
         ensures puts { OnOk result
             (Puts row (rows_told S.Store self.old) (rows_told S.Store self.new)) }
         ensures same { OnErr result (rows_told S.Store self.new ≡ rows_told S.Store self.old) }
+        ensures differ { IfSome (rows_told S.Store self.new) HaveDifferentSessions }
+        ensures steady { OnOk result (self.new.faults ≡ self.old.faults) }
+        ensures lacking { IsErrOf result IoFault.NoMemory → self.new.faults ≡ self.old.faults }
         ensures failed { IsErrOf result IoFault.Failed → Rises self.old.faults self.new.faults }
         ensures counted { self.old.faults ≤ self.new.faults }
         ensures no_store { self.old.store ≡ None → result ≡ Err IoFault.Failed }
@@ -136,6 +143,8 @@ fn fetch_in<S: Alter>(
     ensures ready { AreSure S.Store → IsReady S.Store store.old → IsReady S.Store store.new }
     ensures same { AreSure S.Store → IsReady S.Store store.old
         → rows_in S.Store store.new ≡ rows_in S.Store store.old }
+    ensures differ { AreSure S.Store → IsReady S.Store store.old
+        → HaveDifferentSessions (rows_in S.Store store.new) }
     ensures found { AreSure S.Store → IsReady S.Store store.old
         → IfOk result (λ row. row ≡ row_of (rows_in S.Store store.old) session.now) }
     ensures said { AreSure S.Store → IsReady S.Store store.old
@@ -160,6 +169,8 @@ fn save_in<S: Alter>(
         (Puts row.now (Some (rows_in S.Store store.old)) (Some (rows_in S.Store store.new))) }
     ensures same { AreSure S.Store → IsReady S.Store store.old
         → OnErr result (rows_in S.Store store.new ≡ rows_in S.Store store.old) }
+    ensures differ { AreSure S.Store → IsReady S.Store store.old
+        → HaveDifferentSessions (rows_in S.Store store.new) }
     ensures no_store { store.old ≡ None → result ≡ Err IoFault.Failed }
 {
     match store {
