@@ -1,4 +1,4 @@
-//! One call of a new register over any keeper, which has to give this answer. The keeper comes back.
+//! Lists of calls over a keeper, each by a new register, with the answers that they have to get.
 
 mod chain;
 mod file;
@@ -23,70 +23,109 @@ fn name(rt: &impl Abort, text: &[u8]) -> SessionName {
     SessionName::new(text).expect(rt, "it is a name")
 }
 
-fn create<K: Keeper + Drop>(
-    rt: &impl Abort,
-    alloc: Global,
-    keeper: K,
-    session: &[u8],
-    answer: Result<Created, IoFault>,
-) -> K {
-    let mut register = Register::new(keeper);
-    assert_eq!(rt; register.create(alloc, &name(rt, session), 7, 5), answer);
-    register.into_keeper()
+// A call, and the answer that it has to get.
+#[derive(Clone, Copy)]
+enum Call {
+    // The first tokens have the numbers 7 and 5.
+    Create(Result<Created, IoFault>),
+    // The end, its token, and the number for the next one.
+    Open(Side, Token, u64, Result<Open, IoFault>),
+    End(Result<Closing, IoFault>),
+    Ended(Result<Option<bool>, IoFault>),
+    Counts(Result<Option<(u64, u64)>, IoFault>),
 }
 
-// What is shown: the end, its token, and the number for the next one.
-fn open<K: Keeper + Drop>(
-    rt: &impl Abort,
+fn creates<K: Keeper + Drop>(
     alloc: Global,
     keeper: K,
-    session: &[u8],
+    session: &SessionName,
+    answer: Result<Created, IoFault>,
+) -> (K, bool) {
+    let mut register = Register::new(keeper);
+    let is = register.create(alloc, session, 7, 5) == answer;
+    (register.into_keeper(), is)
+}
+
+fn opens<K: Keeper + Drop>(
+    alloc: Global,
+    keeper: K,
+    session: &SessionName,
     shown: (Side, Token, u64),
     answer: Result<Open, IoFault>,
-) -> K {
+) -> (K, bool) {
     let mut register = Register::new(keeper);
     let (role, token, fresh) = shown;
-    assert_eq!(rt;
-        register.open(alloc, &name(rt, session), role, token, fresh),
-        answer
-    );
-    register.into_keeper()
+    let is = register.open(alloc, session, role, token, fresh) == answer;
+    (register.into_keeper(), is)
 }
 
-fn end<K: Keeper + Drop>(
-    rt: &impl Abort,
+fn ends<K: Keeper + Drop>(
     alloc: Global,
     keeper: K,
-    session: &[u8],
+    session: &SessionName,
     answer: Result<Closing, IoFault>,
-) -> K {
+) -> (K, bool) {
     let mut register = Register::new(keeper);
-    assert_eq!(rt; register.end(alloc, &name(rt, session)), answer);
-    register.into_keeper()
+    let is = register.end(alloc, session) == answer;
+    (register.into_keeper(), is)
 }
 
-fn ended<K: Keeper + Drop>(
-    rt: &impl Abort,
+fn tells_ended<K: Keeper + Drop>(
     alloc: Global,
     keeper: K,
-    session: &[u8],
+    session: &SessionName,
     answer: Result<Option<bool>, IoFault>,
-) -> K {
+) -> (K, bool) {
     let mut register = Register::new(keeper);
-    assert_eq!(rt; register.ended(alloc, &name(rt, session)), answer);
-    register.into_keeper()
+    let is = register.ended(alloc, session) == answer;
+    (register.into_keeper(), is)
 }
 
-fn counts<K: Keeper + Drop>(
+fn tells_counts<K: Keeper + Drop>(
+    alloc: Global,
+    keeper: K,
+    session: &SessionName,
+    answer: Result<Option<(u64, u64)>, IoFault>,
+) -> (K, bool) {
+    let mut register = Register::new(keeper);
+    let is = register.counts(alloc, session) == answer;
+    (register.into_keeper(), is)
+}
+
+// Whether a call of a new register gets its answer. The keeper comes back.
+fn is_answered<K: Keeper + Drop>(
+    alloc: Global,
+    keeper: K,
+    session: &SessionName,
+    call: Call,
+) -> (K, bool) {
+    match call {
+        Call::Create(answer) => creates(alloc, keeper, session, answer),
+        Call::Open(role, token, fresh, answer) => {
+            opens(alloc, keeper, session, (role, token, fresh), answer)
+        }
+        Call::End(answer) => ends(alloc, keeper, session, answer),
+        Call::Ended(answer) => tells_ended(alloc, keeper, session, answer),
+        Call::Counts(answer) => tells_counts(alloc, keeper, session, answer),
+    }
+}
+
+// Each call gets its answer.
+fn are_answered<K: Keeper + Drop>(
     rt: &impl Abort,
     alloc: Global,
     keeper: K,
     session: &[u8],
-    answer: Result<Option<(u64, u64)>, IoFault>,
+    calls: &[Call],
 ) -> K {
-    let mut register = Register::new(keeper);
-    assert_eq!(rt; register.counts(alloc, &name(rt, session)), answer);
-    register.into_keeper()
+    let session = name(rt, session);
+    let mut keeper = keeper;
+    for (at, call) in calls.iter().enumerate() {
+        let (next, is) = is_answered(alloc, keeper, &session, *call);
+        assert!(rt; is, "call {at}");
+        keeper = next;
+    }
+    keeper
 }
 
 // A row that a keeper gave may be put.
@@ -100,8 +139,8 @@ fn row_in<K: Keeper>(alloc: Global, keeper: &mut K, session: &SessionName) -> Op
     }
 }
 
-fn put<K: Keeper>(rt: &impl Abort, alloc: Global, keeper: &mut K, row: Row)
+fn is_put<K: Keeper>(alloc: Global, keeper: &mut K, row: Row) -> bool
     requires { IsRow row }
 {
-    assert_eq!(rt; keeper.put(alloc, row), Ok(()));
+    keeper.put(alloc, row) == Ok(())
 }

@@ -1,7 +1,7 @@
 //! A chain whose last token has the greatest count.
 
 use super::tables::{NEW_TABLE, in_memory};
-use super::{counts, name, open, put, row_in, token};
+use super::{Call, are_answered, is_put, name, row_in, token};
 use crate::{Keeper, MapKeeper, Open, SqliteKeeper};
 use chan_values::Side;
 use sqlite::{Error, MemStore};
@@ -21,28 +21,30 @@ fn spent(alloc: Global) -> Result<SqliteKeeper<MemStore>, Error> {
     Ok(SqliteKeeper::over(Some(store)))
 }
 
-fn in_map<K: Keeper + Drop>(rt: &impl Abort, alloc: Global, mut keeper: K) -> MapKeeper {
+// A keeper in a map that was put the row of another.
+fn in_map<K: Keeper>(rt: &impl Abort, alloc: Global, keeper: &mut K) -> MapKeeper {
+    let row = row_in(alloc, keeper, &name(rt, b"s-1")).expect(rt, "the row is found");
     let mut map = MapKeeper::new(alloc);
-    match row_in(alloc, &mut keeper, &name(rt, b"s-1")) {
-        Some(row) => put(rt, alloc, &mut map, row),
-        None => assert!(rt; false, "the row is found"),
-    }
+    assert!(rt; is_put(alloc, &mut map, row));
     map
 }
 
 fn stands_still<K: Keeper + Drop>(rt: &impl Abort, alloc: Global, keeper: K) -> K {
     let last = token(GREATEST, 1);
-    let prev = (Side::Plugin, token(9_223_372_036_854_775_806, 2), 3);
-    let keeper = open(rt, alloc, keeper, b"s-1", prev, Ok(Open::Same(last)));
-    let shown = (Side::Plugin, last, 4);
-    let keeper = open(rt, alloc, keeper, b"s-1", shown, Ok(Open::Spent));
-    counts(rt, alloc, keeper, b"s-1", Ok(Some((GREATEST, 0))))
+    let prev = token(9_223_372_036_854_775_806, 2);
+    let calls = [
+        Call::Open(Side::Plugin, prev, 3, Ok(Open::Same(last))),
+        Call::Open(Side::Plugin, last, 4, Ok(Open::Spent)),
+        Call::Counts(Ok(Some((GREATEST, 0)))),
+    ];
+    are_answered(rt, alloc, keeper, b"s-1", &calls)
 }
 
 #[test]
 fn a_chain_is_spent_at_the_greatest_count(rt: HostRuntime) -> Result<(), Fail> {
     let alloc = rt.alloc();
-    let keeper = stands_still(&rt, alloc, spent(alloc)?);
-    let _ = stands_still(&rt, alloc, in_map(&rt, alloc, keeper));
+    let mut keeper = stands_still(&rt, alloc, spent(alloc)?);
+    let map = in_map(&rt, alloc, &mut keeper);
+    let _ = stands_still(&rt, alloc, map);
     Ok(())
 }

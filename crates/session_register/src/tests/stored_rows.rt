@@ -1,7 +1,7 @@
 //! Stored rows that are not as they should be, of each wrong form; and no store at all.
 
 use super::tables::{NEW_TABLE, OLD_TABLE, count, in_memory};
-use super::{counts, create, end, ended, open, token};
+use super::{Call, are_answered, token};
 use crate::{IoFault, Keeper, SqliteKeeper};
 use chan_values::Side;
 use sqlite::types::ValueRef;
@@ -13,12 +13,14 @@ use std::test::Fail;
 // Each of the five calls fails, and is counted.
 fn fails<K: Keeper + Drop>(rt: &impl Abort, alloc: Global, keeper: K) -> K {
     let failed = IoFault::Failed;
-    let shown = (Side::Plugin, token(1, 5), 3);
-    let keeper = create(rt, alloc, keeper, b"s-1", Err(failed));
-    let keeper = open(rt, alloc, keeper, b"s-1", shown, Err(failed));
-    let keeper = end(rt, alloc, keeper, b"s-1", Err(failed));
-    let keeper = ended(rt, alloc, keeper, b"s-1", Err(failed));
-    let keeper = counts(rt, alloc, keeper, b"s-1", Err(failed));
+    let calls = [
+        Call::Create(Err(failed)),
+        Call::Open(Side::Plugin, token(1, 5), 3, Err(failed)),
+        Call::End(Err(failed)),
+        Call::Ended(Err(failed)),
+        Call::Counts(Err(failed)),
+    ];
+    let keeper = are_answered(rt, alloc, keeper, b"s-1", &calls);
     assert_eq!(rt; keeper.faults(), 5);
     keeper
 }
@@ -27,6 +29,12 @@ fn fails<K: Keeper + Drop>(rt: &impl Abort, alloc: Global, keeper: K) -> K {
 fn every_call_without_a_store_fails(rt: HostRuntime) {
     let keeper: SqliteKeeper<MemStore> = SqliteKeeper::over(None);
     let _ = fails(&rt, rt.alloc(), keeper);
+}
+
+// A keeper over this store fails. The store comes back.
+fn failed(rt: &impl Abort, alloc: Global, store: Connection<MemStore>) -> Connection<MemStore> {
+    let keeper = fails(rt, alloc, SqliteKeeper::over(Some(store)));
+    keeper.into_store().expect(rt, "there is a store")
 }
 
 // A keeper over a store fails, and leaves the one row that the query counts.
@@ -38,11 +46,8 @@ fn fails_over(
     values: &[ValueRef<'_>],
 ) -> Result<(), Error> {
     assert_eq!(rt; count(&mut store, rows, values)?, 1);
-    let keeper = fails(rt, alloc, SqliteKeeper::over(Some(store)));
-    match keeper.into_store() {
-        Some(mut store) => assert_eq!(rt; count(&mut store, rows, values)?, 1),
-        None => assert!(rt; false, "there is a store"),
-    }
+    let mut store = failed(rt, alloc, store);
+    assert_eq!(rt; count(&mut store, rows, values)?, 1);
     Ok(())
 }
 
@@ -72,45 +77,59 @@ fn new_row_fails(rt: &impl Abort, alloc: Global, tokens: &[ValueRef<'_>]) -> Res
     fails_over(rt, alloc, store, rows, tokens)
 }
 
+fn rows_fail(rt: &impl Abort, alloc: Global, tokens: [&[u8]; 4]) -> Result<(), Error> {
+    let [p_last, p_prev, a_last, a_prev] = tokens;
+    let tokens = params![p_last, p_prev, a_last, a_prev];
+    old_row_fails(rt, alloc, tokens)?;
+    new_row_fails(rt, alloc, tokens)
+}
+
 #[test]
 fn a_stored_token_out_of_form_fails(rt: HostRuntime) -> Result<(), Fail> {
     let good = GOOD_TOKEN;
     for bad in BAD_TOKENS {
-        for [p_last, p_prev, a_last, a_prev] in [
+        for tokens in [
             [bad, good, good, good],
             [good, bad, good, good],
             [good, good, bad, good],
             [good, good, good, bad],
         ] {
-            let tokens = params![p_last, p_prev, a_last, a_prev];
-            old_row_fails(&rt, rt.alloc(), tokens)?;
-            new_row_fails(&rt, rt.alloc(), tokens)?;
+            rows_fail(&rt, rt.alloc(), tokens)?;
         }
     }
     Ok(())
 }
 
-#[test]
-fn a_negative_count_of_openings_fails(rt: HostRuntime) -> Result<(), Fail> {
+fn opened_fails(rt: &impl Abort, alloc: Global, plugin: i64, agent: i64) -> Result<(), Error> {
     let row = "INSERT INTO sessions2 VALUES ('s-1', 0, x'00000000000000010000000000000005', \
          NULL, ?1, x'00000000000000010000000000000005', NULL, ?2)";
     let rows = "SELECT count(*) FROM sessions2 WHERE p_opened = ?1 AND a_opened = ?2";
+    let values = params![plugin, agent];
+    let store = in_memory(alloc, NEW_TABLE, row, values)?;
+    fails_over(rt, alloc, store, rows, values)
+}
+
+#[test]
+fn a_negative_count_of_openings_fails(rt: HostRuntime) -> Result<(), Fail> {
     for (plugin, agent) in [(-1i64, 0i64), (0, -1)] {
-        let values = params![plugin, agent];
-        let store = in_memory(rt.alloc(), NEW_TABLE, row, values)?;
-        fails_over(&rt, rt.alloc(), store, rows, values)?;
+        opened_fails(&rt, rt.alloc(), plugin, agent)?;
     }
+    Ok(())
+}
+
+fn is_read(rt: &impl Abort, alloc: Global, flag: i64, answer: bool) -> Result<(), Error> {
+    let row = "INSERT INTO sessions VALUES ('s-1', ?1, x'00000000000000010000000000000005', \
+         NULL, x'00000000000000010000000000000005', NULL)";
+    let store = in_memory(alloc, OLD_TABLE, row, params![flag])?;
+    let keeper = SqliteKeeper::over(Some(store));
+    let _ = are_answered(rt, alloc, keeper, b"s-1", &[Call::Ended(Ok(Some(answer)))]);
     Ok(())
 }
 
 #[test]
 fn a_session_has_ended_where_its_flag_is_not_0(rt: HostRuntime) -> Result<(), Fail> {
-    let row = "INSERT INTO sessions VALUES ('s-1', ?1, x'00000000000000010000000000000005', \
-         NULL, x'00000000000000010000000000000005', NULL)";
     for (flag, answer) in [(0i64, false), (1, true), (-7, true)] {
-        let store = in_memory(rt.alloc(), OLD_TABLE, row, params![flag])?;
-        let keeper = SqliteKeeper::over(Some(store));
-        let _ = ended(&rt, rt.alloc(), keeper, b"s-1", Ok(Some(answer)));
+        is_read(&rt, rt.alloc(), flag, answer)?;
     }
     Ok(())
 }

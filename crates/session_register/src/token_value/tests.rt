@@ -2,7 +2,47 @@
 
 use crate::{SessionName, Token, TokenValue};
 use chan_values::Side;
+use std::alloc::Global;
 use std::test::Fail;
+
+fn is_value(value: &TokenValue, session: &[u8], role: Side, token: Token) -> bool {
+    value.session.as_bytes() == session && value.role == role && value.token == token
+}
+
+fn is_written(alloc: Global, value: &TokenValue, text: &[u8]) -> Result<bool, Fail> {
+    Ok(value.write(alloc)?.as_slice() == text)
+}
+
+// The text is read as this value, which is written back as the text.
+fn is_read(
+    alloc: Global,
+    text: &[u8],
+    session: &[u8],
+    role: Side,
+    token: Token,
+) -> Result<bool, Fail> {
+    match TokenValue::read(text) {
+        Some(value) => {
+            Ok(is_value(&value, session, role, token) && is_written(alloc, &value, text)?)
+        }
+        None => Ok(false),
+    }
+}
+
+fn is_no_value(text: &[u8]) -> bool {
+    TokenValue::read(text).is_none()
+}
+
+fn is_name(text: &[u8]) -> bool {
+    match SessionName::new(text) {
+        Some(name) => name.as_bytes() == text,
+        None => false,
+    }
+}
+
+fn is_no_name(text: &[u8]) -> bool {
+    SessionName::new(text).is_none()
+}
 
 #[test]
 fn a_text_is_read_and_written_back(rt: HostRuntime) -> Result<(), Fail> {
@@ -36,14 +76,10 @@ fn a_text_is_read_and_written_back(rt: HostRuntime) -> Result<(), Fail> {
         ),
     ];
     for (text, session, role, token) in cases {
-        let Some(value) = TokenValue::read(text) else {
-            assert!(rt; false, "it is a value");
-            return Ok(());
-        };
-        assert_eq!(rt; value.session.as_bytes(), session);
-        assert_eq!(rt; value.role, role);
-        assert_eq!(rt; value.token, token);
-        assert_eq!(rt; value.write(rt.alloc())?.as_slice(), text);
+        assert!(rt;
+            is_read(rt.alloc(), text, session, role, token)?,
+            "{text:?}"
+        );
     }
     Ok(())
 }
@@ -68,7 +104,7 @@ fn a_text_of_another_form_is_no_value(rt: HostRuntime) {
         b"s-1.plugin.agent.00000000000000010000000000000007",
     ];
     for text in texts {
-        assert!(rt; TokenValue::read(text).is_none(), "{text:?}");
+        assert!(rt; is_no_value(text), "{text:?}");
     }
 }
 
@@ -76,10 +112,7 @@ fn a_text_of_another_form_is_no_value(rt: HostRuntime) {
 fn a_name_has_1_to_64_letters_digits_and_hyphens(rt: HostRuntime) {
     let good: [&[u8]; 4] = [b"s-1", b"-", b"AZaz09", &[b'a'; 64]];
     for text in good {
-        match SessionName::new(text) {
-            Some(name) => assert_eq!(rt; name.as_bytes(), text),
-            None => assert!(rt; false, "{text:?}"),
-        }
+        assert!(rt; is_name(text), "{text:?}");
     }
     let bad: [&[u8]; 7] = [
         b"",
@@ -91,6 +124,6 @@ fn a_name_has_1_to_64_letters_digits_and_hyphens(rt: HostRuntime) {
         &[b'a'; 65],
     ];
     for text in bad {
-        assert!(rt; SessionName::new(text).is_none(), "{text:?}");
+        assert!(rt; is_no_name(text), "{text:?}");
     }
 }
