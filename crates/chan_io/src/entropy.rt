@@ -1,4 +1,4 @@
-//! Chance.
+//! Random bytes.
 
 ghost use Rattle.std.specs.Prelude.{◌≡◌, ◌≤◌, ◌-◌, ◌^◌, ℕ, List, Option, OnOk, OnErr, min};
 ghost use Rattle.chan_io.specs.Faults.{Rises};

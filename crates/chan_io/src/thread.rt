@@ -16,6 +16,9 @@ use std::sync::Arc;
 use std::sync::atomic::{AtomicBool, Ordering};
 use std::thread::{Promise, Scope};
 
+/// What a thread and its starter share. It is set where no thread could be made.
+type Flag = Arc<AtomicBool, Global>;
+
 /// Starts a thread for the job. Where none can be made, the job comes back.
 pub(crate) fn start_thread<'s, 'e, J: Job + 's>(
     alloc: Global,
@@ -25,10 +28,7 @@ pub(crate) fn start_thread<'s, 'e, J: Job + 's>(
     ensures started { IfOk result (λ r. IsRunOf J.may_end job r) }
     ensures back { IfErr result (λ j. j ≡ job) }
 {
-    let Ok(refused) = Arc::new(alloc, AtomicBool::new(false)) else {
-        return Err(job);
-    };
-    let Ok(theirs) = Arc::try_clone(&refused) else {
+    let Some((refused, theirs)) = shared_flag(alloc) else {
         return Err(job);
     };
     let promise = MayEnd {
@@ -72,10 +72,7 @@ pub(crate) fn call_in_thread<
     ensures started { IfOk result (IsCallOf P.kept_by promise) }
     ensures back { IfErr result (λ r. (b : Bool) × F.post call b r) }
 {
-    let Ok(refused) = Arc::new(alloc, AtomicBool::new(false)) else {
-        return Err(call(false));
-    };
-    let Ok(theirs) = Arc::try_clone(&refused) else {
+    let Some((refused, theirs)) = shared_flag(alloc) else {
         return Err(call(false));
     };
     let run = move || -> T
@@ -94,4 +91,11 @@ pub(crate) fn call_in_thread<
             Err((error.value)())
         }
     }
+}
+
+/// The two ends of a flag that is not set; none where there is no memory.
+fn shared_flag(alloc: Global) -> Option<(Flag, Flag)> {
+    let flag = Arc::new(alloc, AtomicBool::new(false)).ok()?;
+    let theirs = Arc::try_clone(&flag).ok()?;
+    Some((flag, theirs))
 }
