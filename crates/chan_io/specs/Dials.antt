@@ -12,13 +12,11 @@ pub record MemoryDialer : Type 0 where
 abbrev pub dial_with : List ℕ → Option (List ℕ) → Dial
 dial_with opening reply = record { opening = opening; reply = reply }
 
--- what a dial adds: itself, with its reply or as failed; nothing at want of memory
-abbrev pub dialed_by : List ℕ → Result (List ℕ) IoFault → List Dial
-dialed_by opening (Ok reply) = dial_with opening (Some reply) ∷ []
-dialed_by opening (Err IoFault.Failed) = dial_with opening None ∷ []
-dialed_by opening (Err IoFault.NoMemory) = []
-
--- the dial stands behind those before
+-- the dial stands behind those before, with its reply or as failed; at want of memory it is not told
 abbrev pub Dials : List ℕ → Result (List ℕ) IoFault → Option (List Dial) → Option (List Dial) → Type 0
 Dials opening result None after = after ≡ None
-Dials opening result (Some before) after = after ≡ Some (before ++ dialed_by opening result)
+Dials opening (Ok reply) (Some before) after =
+    after ≡ Some (before ++ dial_with opening (Some reply) ∷ [])
+Dials opening (Err IoFault.Failed) (Some before) after =
+    after ≡ Some (before ++ dial_with opening None ∷ [])
+Dials opening (Err IoFault.NoMemory) (Some before) after = after ≡ Some before
