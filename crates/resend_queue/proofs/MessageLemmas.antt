@@ -29,7 +29,7 @@ unmarked true n low other = ne_eqb n low (other refl)
 unmarked false n low other = refl
 
 -- a queue's messages, before a call and after it
-module _ (window next cursor : ℕ) (due : Bool) (dues : ℕ) (r : Ring Slot) where
+module _ (window next cursor : ℕ) (due : Bool) (dues : ℕ) (ended : Bool) (r : Ring Slot) where
   -- the messages after a mark of the lowest one
   pub messages-marked : messages cursor true r ≡ changed_at r.base marked (messages cursor due r)
   messages-marked =
@@ -56,7 +56,7 @@ module _ (window next cursor : ℕ) (due : Bool) (dues : ℕ) (r : Ring Slot) wh
   messages-reopened ring =
       map-agree (pending_of r.base r.base due)
       (λ e. unsent (pending_of r.base cursor due e)) r.held
-      (λ k d below. let from = from_base window next cursor due dues r ring k d below in
+      (λ k d below. let from = from_base window next cursor due dues ended r ring k d below in
       rw (le-ltb (get_or r.held k d).0 r.base from) refl)
       ∙ sym (map-map unsent (pending_of r.base cursor due) r.held)
 
@@ -91,16 +91,21 @@ module _ (window next cursor : ℕ) (due : Bool) (dues : ℕ) (r : Ring Slot) wh
       → IsRing r
       → cursor ≤ to
       → ((n : ℕ) → cursor ≤ n → n < to → value_with r.held n ≡ None)
-      → state_of window next to due dues r ≡ state_of window next cursor due dues r
+      → state_of window next to due dues ended r ≡ state_of window next cursor due dues ended r
   state-passed to ring on passed =
-      ap (λ (ps : List Pending).
-      record { window = window; next = next; pending = ps; dues = dues })
+      ap (λ (ps : List Pending). record {
+        window = window;
+        next = next;
+        pending = ps;
+        dues = dues;
+        ended = ended;
+      })
       (messages-passed to ring on passed)
 
   -- the messages after a transmission: the slot of its number has the moment
   pub messages-transmitted : (seq now : ℕ) (old new : Slot) (after : Ring Slot)
       → IsRing r
-      → IsFirst window next cursor due dues r seq
+      → IsFirst window next cursor due dues ended r seq
       → value_with r.held seq ≡ Some old
       → new ≡ record old { emitted = Some now }
       → after.base ≡ r.base
@@ -194,22 +199,23 @@ module _ (window next cursor : ℕ) (due : Bool) (dues : ℕ) (r : Ring Slot) wh
           rw (alike, no) refl
 
   -- the messages after a put
-  pub messages-put : (item : Item) (id : List ℕ) (date : ℕ) (slot : Slot) (after : Ring Slot)
+  pub messages-put : (item : Item) (id : List ℕ) (date : ℕ) (last : Bool) (slot : Slot)
+      (after : Ring Slot)
       → IsRetransmissionQueue window next cursor due dues r
-      → slot ≡ record { id = id; date = date; item = item; emitted = None }
+      → slot ≡ record { id = id; date = date; item = item; last = last; emitted = None }
       → after.base ≡ r.base
       → after.held ≡ with_value r.held next slot
       → messages cursor due after
-      ≡ messages cursor due r ++ new_message next item id date ∷ []
-  messages-put item id date slot after sound is base held =
+      ≡ messages cursor due r ++ new_message next item id date last ∷ []
+  messages-put item id date last slot after sound is base held =
       ap (λ (b : ℕ). map (pending_of b cursor due) after.held) base
       ∙ ap (map (pending_of r.base cursor due))
       (held ∙ with_value-last next slot r.held
-      (below_next window next cursor due dues r sound.kept))
+      (below_next window next cursor due dues ended r sound.kept))
       ∙ map-append (pending_of r.base cursor due) r.held ((next, slot) ∷ [])
       ∙ ap (λ (p : Pending). messages cursor due r ++ p ∷ []) new
     where
-      new : pending_of r.base cursor due (next, slot) ≡ new_message next item id date
+      new : pending_of r.base cursor due (next, slot) ≡ new_message next item id date last
       new =
           let unsent : ltb next cursor ≡ false = le-ltb next cursor sound.passed in
           let no : (due && eqb next r.base) ≡ false =

@@ -11,9 +11,15 @@ use Rattle.resend_queue.specs.Queue.{Pending, QueueState, first_number, first_re
 use Rattle.resend_queue.proofs.HeldLemmas.{find-held, find-map, find-none, first_of, none_between}
 
 -- a queue as contracts see it
-abbrev pub state_of : ℕ → ℕ → ℕ → Bool → ℕ → Ring Slot → QueueState
-state_of window next cursor due dues r =
-    record { window = window; next = next; pending = messages cursor due r; dues = dues }
+abbrev pub state_of : ℕ → ℕ → ℕ → Bool → ℕ → Bool → Ring Slot → QueueState
+state_of window next cursor due dues ended r =
+    record {
+      window = window;
+      next = next;
+      pending = messages cursor due r;
+      dues = dues;
+      ended = ended;
+    }
 
 -- a mark of the lowest number is its own
 mark_itself : (due : Bool) (low : ℕ) → (due && eqb low low) ≡ due
@@ -40,7 +46,7 @@ lookup-find low cursor due n (e ∷ es) =
     (cases_eq n e.0)
 
 -- what a queue's ring tells of it
-module _ (window next cursor : ℕ) (due : Bool) (dues : ℕ) (r : Ring Slot) where
+module _ (window next cursor : ℕ) (due : Bool) (dues : ℕ) (ended : Bool) (r : Ring Slot) where
   -- no number is below the base
   pub from_base : IsRing r → All (λ (e : ℕ × Slot). r.base ≤ e.0) r.held
   from_base ring = λ k d below. (ring.within k d below).0
@@ -65,7 +71,7 @@ module _ (window next cursor : ℕ) (due : Bool) (dues : ℕ) (r : Ring Slot) wh
   -- the base is the lowest number
   pub base-lowest : IsRing r
       → IsRetransmissionQueue window next cursor due dues r
-      → r.base ≡ lowest (state_of window next cursor due dues r)
+      → r.base ≡ lowest (state_of window next cursor due dues ended r)
   base-lowest ring sound = by_case (value_with r.held r.base) refl
     where
       by_case : (o : Option Slot)
@@ -86,7 +92,7 @@ module _ (window next cursor : ℕ) (due : Bool) (dues : ℕ) (r : Ring Slot) wh
   -- the moment of a number
   pub moment-value : (n : ℕ)
       → option_and_then (λ slot. slot.emitted) (value_with r.held n)
-      ≡ moment_of (state_of window next cursor due dues r) n
+      ≡ moment_of (state_of window next cursor due dues ended r) n
   moment-value n =
       through (value_with r.held n)
       ∙ ap (option_and_then (λ (p : Pending). p.emitted))
@@ -102,13 +108,13 @@ module _ (window next cursor : ℕ) (due : Bool) (dues : ℕ) (r : Ring Slot) wh
   -- what is answered of the lowest message
   pub mark_answer-none : (now timeout : ℕ)
       → r.held ≡ []
-      → marks.Nothing ≡ mark_answer (state_of window next cursor due dues r) now timeout
+      → marks.Nothing ≡ mark_answer (state_of window next cursor due dues ended r) now timeout
   mark_answer-none now timeout none = rw none refl
 
   pub mark_answer-waits : (now timeout : ℕ) (slot : Slot) (rest : List (ℕ × Slot))
       → r.held ≡ (r.base, slot) ∷ rest
       → (ltb r.base cursor && (not due && is_past slot.emitted now timeout)) ≡ false
-      → marks.Nothing ≡ mark_answer (state_of window next cursor due dues r) now timeout
+      → marks.Nothing ≡ mark_answer (state_of window next cursor due dues ended r) now timeout
   mark_answer-waits now timeout slot rest first waits =
       let itself = mark_itself due r.base in rw (first, itself, waits) refl
 
@@ -116,7 +122,7 @@ module _ (window next cursor : ℕ) (due : Bool) (dues : ℕ) (r : Ring Slot) wh
       → r.held ≡ (r.base, slot) ∷ rest
       → (ltb r.base cursor && (not due && is_past slot.emitted now timeout)) ≡ true
       → 3000 ≤ dues
-      → marks.GaveUp r.base ≡ mark_answer (state_of window next cursor due dues r) now timeout
+      → marks.GaveUp r.base ≡ mark_answer (state_of window next cursor due dues ended r) now timeout
   mark_answer-gave_up now timeout slot rest first overdue many =
       let itself = mark_itself due r.base in
       rw (first, itself, overdue, le-leb 3000 dues many) refl
@@ -125,7 +131,7 @@ module _ (window next cursor : ℕ) (due : Bool) (dues : ℕ) (r : Ring Slot) wh
       → r.held ≡ (r.base, slot) ∷ rest
       → (ltb r.base cursor && (not due && is_past slot.emitted now timeout)) ≡ true
       → dues < 3000
-      → marks.Due r.base ≡ mark_answer (state_of window next cursor due dues r) now timeout
+      → marks.Due r.base ≡ mark_answer (state_of window next cursor due dues ended r) now timeout
   mark_answer-due now timeout slot rest first overdue few =
       let itself = mark_itself due r.base in
       rw (first, itself, overdue, lt-leb 3000 dues few) refl
@@ -141,7 +147,7 @@ module _ (window next cursor : ℕ) (due : Bool) (dues : ℕ) (r : Ring Slot) wh
       → IsRing r
       → IsFirst seq
       → value_with r.held seq ≡ Some slot
-      → first_ready (state_of window next cursor due dues r)
+      → first_ready (state_of window next cursor due dues ended r)
       ≡ Some (pending_of r.base cursor due (seq, slot))
   first_ready-slot seq slot ring first found =
       find-map is_ready (pending_of r.base cursor due) r.held
@@ -180,7 +186,7 @@ module _ (window next cursor : ℕ) (due : Bool) (dues : ℕ) (r : Ring Slot) wh
       → (cursor < next → IsSome (value_with r.held cursor))
       → IsFirst seq
       → value_with r.held seq ≡ None
-      → first_ready (state_of window next cursor due dues r) ≡ None
+      → first_ready (state_of window next cursor due dues ended r) ≡ None
   first_ready-none seq ring sound taken first none =
       ⊎_elim
       (λ (is : due ≡ true).

@@ -88,7 +88,7 @@ module _ (window next cursor : ℕ) (due : Bool) (dues : ℕ) (r : Ring Slot) wh
       let begun = sound.begun in
       let passed = sound.passed in
       let list = held ∙ with_value-last next slot r.held
-      (below_next window next cursor due dues r sound.kept) in
+      (below_next window next cursor due dues false r sound.kept) in
       record {
         narrow = sound.narrow;
         wide = sound.wide;

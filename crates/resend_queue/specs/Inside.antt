@@ -14,6 +14,7 @@ pending_of low cursor due e =
       id = e.1.id;
       date = e.1.date;
       item = e.1.item;
+      last = e.1.last;
       emitted = e.1.emitted;
       sent = nat_lt e.0 cursor;
       due = due && e.0 == low;

@@ -21,6 +21,8 @@ pub record Pending : Type 0 where
   pub date : ℕ
   -- its payload and type
   pub item : Item
+  -- nothing follows it in its direction
+  pub last : Bool
   -- the moment of its last transmission
   pub emitted : Option ℕ
   -- it was transmitted since the last reopening
@@ -38,6 +40,8 @@ pub record QueueState : Type 0 where
   pub pending : List Pending
   -- how often the lowest unacknowledged number was marked due
   pub dues : ℕ
+  -- an item was put in as the last
+  pub ended : Bool
 
 -- how often one number may be marked due
 abbrev pub max_dues : ℕ
@@ -45,7 +49,7 @@ max_dues = 3000
 
 -- nothing was put in
 abbrev pub empty_queue : ℕ → QueueState
-empty_queue window = record { window = window; next = 0; pending = []; dues = 0 }
+empty_queue window = record { window = window; next = 0; pending = []; dues = 0; ended = false }
 
 -- the number of the first of these messages, or else the next number
 abbrev pub first_number : List Pending → ℕ → ℕ
@@ -57,33 +61,36 @@ abbrev pub lowest : QueueState → ℕ
 lowest q = first_number q.pending q.next
 
 -- a message that was never transmitted
-abbrev pub new_message : ℕ → Item → List ℕ → ℕ → Pending
-new_message seq item id date =
+abbrev pub new_message : ℕ → Item → List ℕ → ℕ → Bool → Pending
+new_message seq item id date last =
     record {
       seq = seq;
       id = id;
       date = date;
       item = item;
+      last = last;
       emitted = None;
       sent = false;
       due = false;
     }
 
--- what a put is answered
+-- what a put is answered, as the last or not
 abbrev pub put_answer : QueueState → Item → Kept
 put_answer q item =
-    if q.next == max_seq + 1 then kepts.Spent item
+    if q.ended then kepts.Past item
+    else if q.next == max_seq + 1 then kepts.Spent item
     else if q.next - lowest q == q.window then kepts.Full item
     else kepts.Seq q.next
 
--- the queue after a put
-abbrev pub after_put : QueueState → Item → List ℕ → ℕ → Kept → QueueState
-after_put q item id date (kepts.Seq seq) =
+-- the queue after a put, as the last or not
+abbrev pub after_put : QueueState → Item → List ℕ → ℕ → Bool → Kept → QueueState
+after_put q item id date last (kepts.Seq seq) =
     record q {
       next = q.next + 1;
-      pending = q.pending ++ new_message q.next item id date ∷ [];
+      pending = q.pending ++ new_message q.next item id date last ∷ [];
+      ended = last;
     }
-after_put q item id date answer = q
+after_put q item id date last answer = q
 
 -- the message with a number
 abbrev pub with_number : QueueState → ℕ → Option Pending
@@ -154,7 +161,9 @@ first_ready q = find is_ready q.pending
 -- a message as it goes out
 abbrev pub out_of : Option Pending → Out
 out_of None = outs.Idle
-out_of (Some p) = outs.Stream (record { seq = p.seq; id = p.id; date = p.date; item = p.item })
+out_of (Some p) =
+    outs.Stream
+    (record { seq = p.seq; id = p.id; date = p.date; item = p.item; last = p.last })
 
 -- a message can be transmitted: its number is below 2^63, it has a date, and its payload is not longer
 -- than a message's may be

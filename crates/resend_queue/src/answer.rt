@@ -2,11 +2,13 @@
 
 use chan_values::Item;
 
-/// What became of an item that was put in: the answer of `Queue::put`.
+/// What became of an item that was put in: the answer of `Queue::put` and `Queue::put_last`.
 #[derive(Debug, Drop)]
 pub enum Kept {
     /// It is kept under this sequence number.
     Seq(u64),
+    /// An item was put in as the last. The item comes back.
+    Past(Item),
     /// There is no number left. The item comes back.
     Spent(Item),
     /// The window is full. The item comes back.
@@ -36,6 +38,8 @@ pub struct Sent {
     pub date: u64,
     /// The payload and its type.
     pub item: Item,
+    /// Whether it is the last of its direction.
+    pub last: bool,
 }
 
 /// What goes out next: the answer of `Queue::next_out`.

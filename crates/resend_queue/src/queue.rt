@@ -31,6 +31,8 @@ pub struct Queue {
     // Whether the lowest message was marked due after its last transmission, and how often it was.
     due: bool,
     dues: u64,
+    // Whether an item was put in as the last.
+    ended: bool,
 }
 
 impl Model for Queue {
@@ -45,6 +47,7 @@ impl Model for Queue {
       next = q.next;
       pending = messages q.cursor q.due q.slots;
       dues = q.dues;
+      ended = q.ended;
     } };
 
     ghost invariant = { λ q. IsRetransmissionQueue q.window q.next q.cursor q.due q.dues q.slots };
@@ -66,6 +69,7 @@ impl Queue {
             cursor: 0,
             due: false,
             dues: 0,
+            ended: false,
         })
     }
 
@@ -83,13 +87,43 @@ impl Queue {
         self.next
     }
 
+    /// Whether an item was put in as the last.
+    pub fn ended(&self) -> bool
+        ensures { result ≡ self.now.ended }
+    {
+        self.ended
+    }
+
     /// Puts in an item, under the next number. It takes no memory.
     pub fn put(&mut self, item: Item, id: [u8; 16], date: u64) -> Kept
         requires short { length item.payload ≤ max_payload }
         requires dated { 0 < date }
         ensures answer { result ≡ put_answer self.old item }
-        ensures state { self.new ≡ after_put self.old item id date result }
+        ensures state { self.new ≡ after_put self.old item id date false result }
     {
+        self.add(item, id, date, false)
+    }
+
+    /// Puts in an item as the last: no item is taken after it. It takes no memory.
+    pub fn put_last(&mut self, item: Item, id: [u8; 16], date: u64) -> Kept
+        requires short { length item.payload ≤ max_payload }
+        requires dated { 0 < date }
+        ensures answer { result ≡ put_answer self.old item }
+        ensures state { self.new ≡ after_put self.old item id date true result }
+    {
+        self.add(item, id, date, true)
+    }
+
+    /// Puts in an item, as the last or not.
+    fn add(&mut self, item: Item, id: [u8; 16], date: u64, last: bool) -> Kept
+        requires short { length item.payload ≤ max_payload }
+        requires dated { 0 < date }
+        ensures answer { result ≡ put_answer self.old item }
+        ensures state { self.new ≡ after_put self.old item id date last result }
+    {
+        if self.ended {
+            return Kept::Past(item);
+        }
         if self.next == MAX_SEQ + 1 {
             return Kept::Spent(item);
         }
@@ -102,10 +136,12 @@ impl Queue {
             id,
             date,
             item,
+            last,
             emitted: None,
         };
         let _none = self.slots.set(seq, message);
         self.next += 1;
+        self.ended = last;
         Kept::Seq(seq)
     }
 
@@ -178,11 +214,13 @@ impl Queue {
         };
         let id = slot.id;
         let date = slot.date;
+        let last = slot.last;
         let emitted = Some(now);
         let kept = Slot {
             id,
             date,
             item,
+            last,
             emitted,
         };
         let Some(first) = self.slots.set(seq, kept) else {
@@ -196,6 +234,7 @@ impl Queue {
             id,
             date,
             item,
+            last,
         })
     }
 

@@ -11,6 +11,7 @@ pub struct Slot {
     pub id: [u8; 16],
     pub date: u64,
     pub item: Item,
+    pub last: bool,
     /// The moment of its last transmission.
     pub emitted: Option<u64>,
 }

@@ -56,12 +56,41 @@ fn a_refused_item_comes_back(rt: HostRuntime) -> Result<(), Fail> {
         cursor: MAX_SEQ,
         due: false,
         dues: 0,
+        ended: false,
     };
     let last = queue.put(item(alloc, b'c')?, [3; 16], 5);
     assert!(rt; matches!(last, Kept::Seq(MAX_SEQ)), "the last number");
     let spent = queue.put(item(alloc, b'd')?, [4; 16], 5);
     let back = matches!(&spent, Kept::Spent(item) if item.payload.as_slice() == b"d".as_slice());
     assert!(rt; back, "no number is left, which counts before the window");
+    Ok(())
+}
+
+#[test]
+fn nothing_is_taken_after_the_last(rt: HostRuntime) -> Result<(), Fail> {
+    let alloc = rt.alloc();
+    let mut queue = Queue::new(alloc, 1).expect(&rt, "there is memory");
+    let last = queue.put_last(item(alloc, b'a')?, [1; 16], 5);
+    assert!(rt; matches!(last, Kept::Seq(0)), "the last item has a number");
+    let past = queue.put(item(alloc, b'b')?, [2; 16], 5);
+    let back = matches!(&past, Kept::Past(item) if item.payload.as_slice() == b"b".as_slice());
+    assert!(rt; back, "nothing follows it, which counts before the window");
+    Ok(())
+}
+
+#[test]
+fn the_last_goes_out_as_the_last_each_time(rt: HostRuntime) -> Result<(), Fail> {
+    let alloc = rt.alloc();
+    let mut queue = Queue::new(alloc, 1).expect(&rt, "there is memory");
+    let _last = queue.put_last(item(alloc, b'a')?, [1; 16], 5);
+    for _time in 0..2 {
+        let out = queue.next_out(6);
+        assert!(rt;
+            matches!(&out, Out::Stream(sent) if sent.last),
+            "it is the last"
+        );
+        queue.reopen();
+    }
     Ok(())
 }
 
@@ -96,6 +125,7 @@ fn is_first(out: &Out) -> bool {
             sent.seq == 0
                 && sent.id == [1; 16]
                 && sent.date == 5
+                && !sent.last
                 && sent.item.ptype == 1
                 && sent.item.payload.as_slice() == b"a".as_slice()
         }

@@ -18,7 +18,7 @@ pub returns-then-seq-low-clause-state : goal.returns-then-seq-low-clause-state
 returns-then-seq-low-clause-state c =
     let inside = c.self.inside in
     let state = c.remove-acked.ensures.state in
-    let low = base-lowest inside.window inside.next inside.cursor inside.due inside.dues
+    let low = base-lowest inside.window inside.next inside.cursor inside.due inside.dues inside.ended
     inside.slots c.base-low.ensures.sound c.self.invariant in
     rw (
       ← c.self.view_is,
@@ -31,8 +31,10 @@ returns-then-seq-low-clause-state c =
       next = inside.next;
       pending = ps;
       dues = inside.dues;
+      ended = inside.ended;
     })
-    (messages-without inside.window inside.next inside.cursor inside.due inside.dues inside.slots
+    (messages-without inside.window inside.next inside.cursor inside.due inside.dues inside.ended
+    inside.slots
     c.args.seq c.remove-acked.new.self (ap (λ r. r.base) state) (ap (λ r. r.held) state)))
 
 pub invariant_of-self-2 : goal.invariant_of-self-2
@@ -57,7 +59,7 @@ returns-clause-state c =
     let removed = c.remove-acked.ensures.state in
     let state = c.skip.ensures.state in
     let here = c.if-seq-low.false ∙ c.base-low.ensures.value in
-    let low = base-lowest inside.window inside.next inside.cursor inside.due inside.dues
+    let low = base-lowest inside.window inside.next inside.cursor inside.due inside.dues inside.ended
     inside.slots c.base-low.ensures.sound c.self.invariant in
     rw (
       ← c.self.view_is,
@@ -72,8 +74,10 @@ returns-clause-state c =
       next = inside.next;
       pending = ps;
       dues = 0;
+      ended = inside.ended;
     })
-    (messages-risen inside.window inside.next inside.cursor inside.due inside.dues inside.slots
+    (messages-risen inside.window inside.next inside.cursor inside.due inside.dues inside.ended
+    inside.slots
     c.skip.new.self c.base.ensures.sound
     (ap (λ r. r.held) state ∙ ap (λ r. r.held) removed
     ∙ ap (without inside.slots.held) here)))

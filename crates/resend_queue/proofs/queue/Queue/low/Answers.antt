@@ -7,5 +7,6 @@ returns c =
     let inside = c.self.inside in
     rw (← c.self.view_is)
     (c.base.ensures.value
-    ∙ base-lowest inside.window inside.next inside.cursor inside.due inside.dues inside.slots
+    ∙ base-lowest inside.window inside.next inside.cursor inside.due inside.dues inside.ended
+    inside.slots
     c.base.ensures.sound c.self.invariant)

@@ -10,9 +10,11 @@ returns-in_default-clause-answer c =
     let inside = c.self.inside in
     let low = c.base-low.ensures.value in
     rw (← c.self.view_is)
-    (mark_answer-none inside.window inside.next inside.cursor inside.due inside.dues inside.slots
+    (mark_answer-none inside.window inside.next inside.cursor inside.due inside.dues inside.ended
+    inside.slots
     c.args.now c.args.timeout
-    (none_held inside.window inside.next inside.cursor inside.due inside.dues inside.slots
+    (none_held inside.window inside.next inside.cursor inside.due inside.dues inside.ended
+    inside.slots
     c.base-low.ensures.sound c.self.invariant (sym (rw low at c.in_default.ensures))))
 
 pub returns-then-not-is_overdue-clause-answer : goal.returns-then-not-is_overdue-clause-answer
@@ -21,10 +23,12 @@ returns-then-not-is_overdue-clause-answer c =
     let low = c.base-low.ensures.value in
     let ring = c.base-low.ensures.sound in
     let first = first_of inside.slots.base c.in-Some.slot.now inside.slots.held ring.ascending
-    (from_base inside.window inside.next inside.cursor inside.due inside.dues inside.slots ring)
+    (from_base inside.window inside.next inside.cursor inside.due inside.dues inside.ended
+    inside.slots ring)
     (sym (rw low at c.in-Some.ensures)) in
     rw (← c.self.view_is)
-    (mark_answer-waits inside.window inside.next inside.cursor inside.due inside.dues inside.slots
+    (mark_answer-waits inside.window inside.next inside.cursor inside.due inside.dues inside.ended
+    inside.slots
     c.args.now c.args.timeout c.in-Some.slot.now first.0 first.1
     (sym (rw low at c.if-not-is_overdue.ensures)))
 
@@ -34,10 +38,11 @@ returns-then-self-ge-MAX_DUES-clause-answer c =
     let low = c.base-low.ensures.value in
     let ring = c.base-low.ensures.sound in
     let first = first_of inside.slots.base c.in-Some.slot.now inside.slots.held ring.ascending
-    (from_base inside.window inside.next inside.cursor inside.due inside.dues inside.slots ring)
+    (from_base inside.window inside.next inside.cursor inside.due inside.dues inside.ended
+    inside.slots ring)
     (sym (rw low at c.in-Some.ensures)) in
     rw (← c.self.view_is, low)
-    (mark_answer-gave_up inside.window inside.next inside.cursor inside.due inside.dues
+    (mark_answer-gave_up inside.window inside.next inside.cursor inside.due inside.dues inside.ended
     inside.slots c.args.now c.args.timeout c.in-Some.slot.now first.0 first.1
     (sym (rw low at c.if-not-is_overdue.ensures)) c.if-self-ge-MAX_DUES.true)
 
@@ -47,10 +52,12 @@ returns-clause-answer c =
     let low = c.base-low.ensures.value in
     let ring = c.base-low.ensures.sound in
     let first = first_of inside.slots.base c.in-Some.slot.now inside.slots.held ring.ascending
-    (from_base inside.window inside.next inside.cursor inside.due inside.dues inside.slots ring)
+    (from_base inside.window inside.next inside.cursor inside.due inside.dues inside.ended
+    inside.slots ring)
     (sym (rw low at c.in-Some.ensures)) in
     rw (← c.self.view_is, low)
-    (mark_answer-due inside.window inside.next inside.cursor inside.due inside.dues inside.slots
+    (mark_answer-due inside.window inside.next inside.cursor inside.due inside.dues inside.ended
+    inside.slots
     c.args.now c.args.timeout c.in-Some.slot.now first.0 first.1
     (sym (rw low at c.if-not-is_overdue.ensures)) c.if-self-ge-MAX_DUES.false)
 
@@ -63,5 +70,7 @@ returns-clause-state c =
       next = inside.next;
       pending = ps;
       dues = inside.dues + 1;
+      ended = inside.ended;
     })
-    (messages-marked inside.window inside.next inside.cursor inside.due inside.dues inside.slots))
+    (messages-marked inside.window inside.next inside.cursor inside.due inside.dues inside.ended
+    inside.slots))

@@ -9,7 +9,8 @@ returns-in-Some c =
     let inside = c.self.inside in
     rw (← c.self.view_is)
     (ap (option_and_then (λ (slot : Slot). slot.emitted)) c.in-Some.ensures
-    ∙ moment-value inside.window inside.next inside.cursor inside.due inside.dues inside.slots
+    ∙ moment-value inside.window inside.next inside.cursor inside.due inside.dues inside.ended
+    inside.slots
     c.args.seq)
 
 pub returns-in-None : goal.returns-in-None
@@ -17,5 +18,6 @@ returns-in-None c =
     let inside = c.self.inside in
     rw (← c.self.view_is)
     (ap (option_and_then (λ (slot : Slot). slot.emitted)) c.in-None.ensures
-    ∙ moment-value inside.window inside.next inside.cursor inside.due inside.dues inside.slots
+    ∙ moment-value inside.window inside.next inside.cursor inside.due inside.dues inside.ended
+    inside.slots
     c.args.seq)

@@ -12,11 +12,12 @@ returns-in_default-clause-answer c =
     let inside = c.self.inside in
     let ring = c.base-low.ensures.sound in
     let to = c.next_taken-self-inside in
-    let same = state-passed inside.window inside.next inside.cursor inside.due inside.dues
+    let same = state-passed inside.window inside.next inside.cursor inside.due inside.dues inside.ended
     inside.slots to.result ring to.ensures.low to.ensures.passed in
     let sound = sound-passed inside.window inside.next inside.cursor inside.due inside.dues
     inside.slots to.result c.self.invariant to.ensures.low to.ensures.high in
-    let first : IsFirst inside.window inside.next to.result inside.due inside.dues inside.slots
+    let first : IsFirst inside.window inside.next to.result inside.due inside.dues inside.ended
+    inside.slots
     c.first_to_send-seq.result =
     record {
       marked = λ due. c.first_to_send-seq.ensures.marked due ∙ c.base-low.ensures.value;
@@ -25,7 +26,8 @@ returns-in_default-clause-answer c =
     } in
     inl (rw (← c.self.view_is)
     (sym (ap out_of
-    (first_ready-none inside.window inside.next to.result inside.due inside.dues inside.slots
+    (first_ready-none inside.window inside.next to.result inside.due inside.dues inside.ended
+    inside.slots
     c.first_to_send-seq.result ring sound to.ensures.taken first (sym c.in_default.ensures)))
     ∙ ap (λ (q : QueueState). out_of (first_ready q)) same))
 
@@ -34,7 +36,7 @@ returns-in_default-clause-state c =
     let inside = c.self.inside in
     let ring = c.base-low.ensures.sound in
     let to = c.next_taken-self-inside in
-    let same = state-passed inside.window inside.next inside.cursor inside.due inside.dues
+    let same = state-passed inside.window inside.next inside.cursor inside.due inside.dues inside.ended
     inside.slots to.result ring to.ensures.low to.ensures.passed in
     rw (← c.self.view_is) same
 
@@ -43,7 +45,7 @@ returns-in_default-copy-clause-state c =
     let inside = c.self.inside in
     let ring = c.base-low.ensures.sound in
     let to = c.next_taken-self-inside in
-    let same = state-passed inside.window inside.next inside.cursor inside.due inside.dues
+    let same = state-passed inside.window inside.next inside.cursor inside.due inside.dues inside.ended
     inside.slots to.result ring to.ensures.low to.ensures.passed in
     rw (← c.self.view_is) same
 
@@ -68,6 +70,7 @@ invariant_of-self-2 c =
       id = c.in-Some.slot.now.id;
       date = c.in-Some.slot.now.date;
       item = c.in-Ok.item;
+      last = c.in-Some.slot.now.last;
       emitted = Some c.args.now;
     }) c.set.new.self ring sound (sym c.in-Some.ensures) (rw c.in-Ok.ensures refl)
     c.set.ensures.state)
@@ -77,9 +80,10 @@ returns-clause-answer c =
     let inside = c.self.inside in
     let ring = c.base-low.ensures.sound in
     let to = c.next_taken-self-inside in
-    let same = state-passed inside.window inside.next inside.cursor inside.due inside.dues
+    let same = state-passed inside.window inside.next inside.cursor inside.due inside.dues inside.ended
     inside.slots to.result ring to.ensures.low to.ensures.passed in
-    let first : IsFirst inside.window inside.next to.result inside.due inside.dues inside.slots
+    let first : IsFirst inside.window inside.next to.result inside.due inside.dues inside.ended
+    inside.slots
     c.first_to_send-seq.result =
     record {
       marked = λ due. c.first_to_send-seq.ensures.marked due ∙ c.base-low.ensures.value;
@@ -91,7 +95,8 @@ returns-clause-answer c =
     let given : c.in-Some-set.first ≡ c.in-Some.slot.now = cc in
     inl (rw (← c.self.view_is, given)
     (sym (ap out_of
-    (first_ready-slot inside.window inside.next to.result inside.due inside.dues inside.slots
+    (first_ready-slot inside.window inside.next to.result inside.due inside.dues inside.ended
+    inside.slots
     c.first_to_send-seq.result c.in-Some.slot.now ring first (sym c.in-Some.ensures)))
     ∙ ap (λ (q : QueueState). out_of (first_ready q)) same))
 
@@ -100,9 +105,10 @@ returns-clause-state c =
     let inside = c.self.inside in
     let ring = c.base-low.ensures.sound in
     let to = c.next_taken-self-inside in
-    let same = state-passed inside.window inside.next inside.cursor inside.due inside.dues
+    let same = state-passed inside.window inside.next inside.cursor inside.due inside.dues inside.ended
     inside.slots to.result ring to.ensures.low to.ensures.passed in
-    let first : IsFirst inside.window inside.next to.result inside.due inside.dues inside.slots
+    let first : IsFirst inside.window inside.next to.result inside.due inside.dues inside.ended
+    inside.slots
     c.first_to_send-seq.result =
     record {
       marked = λ due. c.first_to_send-seq.ensures.marked due ∙ c.base-low.ensures.value;
@@ -115,13 +121,16 @@ returns-clause-state c =
       next = inside.next;
       pending = ps;
       dues = inside.dues;
+      ended = inside.ended;
     })
-    (messages-transmitted inside.window inside.next to.result inside.due inside.dues inside.slots
+    (messages-transmitted inside.window inside.next to.result inside.due inside.dues inside.ended
+    inside.slots
     c.first_to_send-seq.result c.args.now c.in-Some.slot.now
     (record {
       id = c.in-Some.slot.now.id;
       date = c.in-Some.slot.now.date;
       item = c.in-Ok.item;
+      last = c.in-Some.slot.now.last;
       emitted = Some c.args.now;
     }) c.set.new.self ring first (sym c.in-Some.ensures) (rw c.in-Ok.ensures refl)
     (ap (λ r. r.base) c.set.ensures.state) (ap (λ r. r.held) c.set.ensures.state)

@@ -12,6 +12,8 @@ returns c =
       next = inside.next;
       pending = ps;
       dues = inside.dues;
+      ended = inside.ended;
     })
-    (messages-reopened inside.window inside.next inside.cursor inside.due inside.dues inside.slots
+    (messages-reopened inside.window inside.next inside.cursor inside.due inside.dues inside.ended
+    inside.slots
     c.base-low.ensures.sound))
