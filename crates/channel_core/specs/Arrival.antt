@@ -12,7 +12,7 @@ use Rattle.json_bodies.specs.Reading.{Shows}
 use Rattle.json_bodies.specs.declared.ack.Ack.{Ack}
 use Rattle.json_members.specs.declared.body_fault.BodyFault.{BodyFault}
 use Rattle.json_bodies.specs.declared.channel_closed.ChannelClosed.{ChannelClosed}
-use Rattle.channel_core.specs.Wire.{data_name}
+use Rattle.channel_core.specs.Wire.{data_name, has_fin}
 use Rattle.channel_core.specs.declared.message.Incoming.{Incoming}
 use Rattle.channel_core.specs.declared.wire.InRefusal.{InRefusal}
 
@@ -34,10 +34,11 @@ refusal_of_body fault = InRefusal.Body fault
 abbrev pub item_of : Message → Item
 item_of m = record { ptype = m.ptype; payload = m.payload }
 
--- a stream message is heard with its number, id and item, unless the number is negative
+-- a stream message is heard with its number, id and item, as the last where its flags have FIN, unless
+-- the number is negative
 abbrev pub HearsStream : Message → Answer → Type 0
-HearsStream m (Ok (Incoming.Stream seq id item)) =
-    (m.seq ≡ pos seq) × (m.id ≡ id) × (item_of m ≡ item)
+HearsStream m (Ok (Incoming.Stream seq id item last)) =
+    (m.seq ≡ pos seq) × (m.id ≡ id) × (item_of m ≡ item) × (has_fin m.flags ≡ last)
 HearsStream m (Err (InRefusal.Negative seq)) = (m.seq ≡ seq) × (seq <ℤ pos 0)
 HearsStream m answer = ⊥
 

@@ -9,13 +9,14 @@ use Rattle.channel_core.specs.declared.message.Outgoing.{Outgoing}
 
 -- the number of what is heard is below 2^63
 abbrev pub IsNumbered : Incoming → Type 0
-IsNumbered (Incoming.Stream n id item) = n < 2 ^ 63
+IsNumbered (Incoming.Stream n id item last) = n < 2 ^ 63
 IsNumbered (Incoming.Ack n) = n < 2 ^ 63
 IsNumbered incoming = Unit {0}
 
 -- the arguments meet the conditions of the end's call
 abbrev pub IsCallable : EndCall → Type 0
 IsCallable (EndCall.Put item id now) = length item.payload ≤ max_payload
+IsCallable (EndCall.PutLast item id now) = length item.payload ≤ max_payload
 IsCallable (EndCall.Heard now incoming) = IsNumbered incoming
 IsCallable call = Unit {0}
 

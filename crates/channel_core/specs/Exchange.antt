@@ -14,7 +14,7 @@ use Rattle.channel_core.specs.World.{Event, history_of}
 
 -- what the other end hears of an emission
 abbrev pub incoming_of : Outgoing → Incoming
-incoming_of (Outgoing.Stream m) = Incoming.Stream m.seq m.id m.item
+incoming_of (Outgoing.Stream m) = Incoming.Stream m.seq m.id m.item m.last
 incoming_of (Outgoing.Ack n id date) = Incoming.Ack n
 
 -- this end was asked for a message and gave this answer

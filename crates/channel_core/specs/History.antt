@@ -1,6 +1,7 @@
 -- What one end did, read off the list of its calls with their answers. Nothing else is kept.
-use Rattle.std.specs.Prelude.{ℕ, max, Bool, true, false, not, ◌||◌, Option, Some, None, List, [], ◌∷◌, ◌++◌, map, drop, length, if◌then◌else◌, nat_eq, nat_lt}
-use Rattle.std.specs.List.{filter, filter_map, flat_map, fold, list_any, range_with_len}
+use Rattle.std.specs.Prelude.{ℕ, max, Bool, true, false, not, ◌||◌, Option, Some, None, List, [], ◌∷◌, ◌++◌, map, drop, find, length, if◌then◌else◌, nat_eq, nat_lt}
+use Rattle.std.specs.List.{count_by, filter, filter_map, flat_map, fold, list_any, range_with_len}
+use Rattle.std.specs.Option.{option_map}
 use Rattle.chan_values.specs.declared.item.Item.{Item}
 use Rattle.channel_core.specs.declared.call.EndAnswer.{EndAnswer}
 use Rattle.channel_core.specs.declared.call.EndCall.{EndCall}
@@ -20,11 +21,15 @@ pub record PutMessage : Type 0 where
   pub id : List ℕ
   -- CreatedDate: the moment of the put, at least 1
   pub date : ℕ
+  -- it was put in as the last
+  pub last : Bool
 
 -- the message that this call put in
 abbrev pub message_put : EndAnswer → EndCall → Option PutMessage
 message_put (EndAnswer.Put (Put.Seq n)) (EndCall.Put item id now) =
-    Some (record { item = item; id = id; date = max now 1 })
+    Some (record { item = item; id = id; date = max now 1; last = false })
+message_put (EndAnswer.Put (Put.Seq n)) (EndCall.PutLast item id now) =
+    Some (record { item = item; id = id; date = max now 1; last = true })
 message_put answer call = None
 
 -- the messages that were put in, in order
@@ -34,6 +39,10 @@ put_messages h = filter_map (λ e. message_put e.answer e.call) h
 -- the items that were put in, in order
 abbrev pub put_items : List Entry → List Item
 put_items h = map (λ m. m.item) (put_messages h)
+
+-- whether an item was put in as the last: then no other is
+abbrev pub has_ended : List Entry → Bool
+has_ended h = list_any (λ m. m.last) (put_messages h)
 
 -- the number that this answer counts as acknowledged
 abbrev pub number_acked : EndAnswer → Option ℕ
@@ -53,16 +62,38 @@ abbrev pub unacked_numbers : List Entry → List ℕ
 unacked_numbers h =
     filter (λ n. not (has_number (acked_numbers h) n)) (range_with_len 0 (length (put_messages h)))
 
--- the stream message that this call took: its number and item
-abbrev pub item_taken : EndAnswer → EndCall → Option (ℕ × Item)
-item_taken
-    (EndAnswer.Heard (Heard.Released items)) (EndCall.Heard now (Incoming.Stream n id item)) =
-    Some (n, item)
-item_taken answer call = None
+-- a stream message that was taken
+pub record TakenMessage : Type 0 where
+  pub seq : ℕ
+  pub item : Item
+  -- it is the last of its direction
+  pub last : Bool
+
+-- the stream message that this call took
+abbrev pub message_taken : EndAnswer → EndCall → Option TakenMessage
+message_taken
+    (EndAnswer.Heard (Heard.Released items)) (EndCall.Heard now (Incoming.Stream n id item last)) =
+    Some (record { seq = n; item = item; last = last })
+message_taken
+    (EndAnswer.Heard (Heard.Finished items)) (EndCall.Heard now (Incoming.Stream n id item last)) =
+    Some (record { seq = n; item = item; last = last })
+message_taken answer call = None
 
 -- the stream messages that were taken, in the order in which they came
+unfoldable pub taken_messages : List Entry → List TakenMessage
+taken_messages h = filter_map (λ e. message_taken e.answer e.call) h
+
+-- numbers and items of messages
+abbrev pub items_of : List TakenMessage → List (ℕ × Item)
+items_of messages = map (λ m. (m.seq, m.item)) messages
+
+-- those of the stream messages that were taken
 unfoldable pub taken_items : List Entry → List (ℕ × Item)
-taken_items h = filter_map (λ e. item_taken e.answer e.call) h
+taken_items h = items_of (taken_messages h)
+
+-- the number of the stream message that was taken as the last of its direction
+abbrev pub last_number : List Entry → Option ℕ
+last_number h = option_map (λ m. m.seq) (find (λ m. m.last) (taken_messages h))
 
 -- RCV.NXT: the least number that was not taken
 abbrev pub next_in_order : List Entry → ℕ
@@ -75,11 +106,21 @@ early_items h = filter (λ p. nat_lt (next_in_order h) p.0) (taken_items h)
 -- the items that this answer released
 abbrev pub items_released : EndAnswer → List Item
 items_released (EndAnswer.Heard (Heard.Released items)) = items
+items_released (EndAnswer.Heard (Heard.Finished items)) = items
 items_released answer = []
 
 -- the items that were released, in order
 unfoldable pub released_items : List Entry → List Item
 released_items h = flat_map (λ e. items_released e.answer) h
+
+-- whether this answer released the last item of the direction
+abbrev pub is_finished : EndAnswer → Bool
+is_finished (EndAnswer.Heard (Heard.Finished items)) = true
+is_finished answer = false
+
+-- how often the last item of the direction was released
+unfoldable pub finished_count : List Entry → ℕ
+finished_count h = count_by (λ e. is_finished e.answer) h
 
 -- the message that this answer gave out
 abbrev pub message_emitted : EndAnswer → Option Outgoing
@@ -110,9 +151,13 @@ owed_with w owed n id =
 abbrev pub owed_after :
     ℕ → List (ℕ × List ℕ) → EndAnswer → EndCall → List (ℕ × List ℕ)
 owed_after w owed
-    (EndAnswer.Heard (Heard.Released items)) (EndCall.Heard now (Incoming.Stream n id item)) =
+    (EndAnswer.Heard (Heard.Released items)) (EndCall.Heard now (Incoming.Stream n id item last)) =
     owed_with w owed n id
-owed_after w owed (EndAnswer.Heard Heard.Late) (EndCall.Heard now (Incoming.Stream n id item)) =
+owed_after w owed
+    (EndAnswer.Heard (Heard.Finished items)) (EndCall.Heard now (Incoming.Stream n id item last)) =
+    owed_with w owed n id
+owed_after w owed
+    (EndAnswer.Heard Heard.Late) (EndCall.Heard now (Incoming.Stream n id item last)) =
     owed_with w owed n id
 owed_after w owed (EndAnswer.Pull (Pull.Emit (Outgoing.Ack n id date))) call = drop 1 owed
 owed_after w owed answer call = owed

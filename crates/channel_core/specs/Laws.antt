@@ -11,7 +11,7 @@ use Rattle.channel_core.specs.declared.answer.Heard.TheVariants as Heard
 use Rattle.channel_core.specs.Call.{Entry}
 use Rattle.channel_core.specs.Condition.{CanBeEncoded, IsCallable}
 use Rattle.channel_core.specs.Exchange.{IsExchange, pull_count}
-use Rattle.channel_core.specs.History.{acked_numbers, emitted_acks, early_items, emissions, is_closed, is_paused, is_up, next_in_order, owed_acks, put_items, released_items, taken_items, unacked_numbers}
+use Rattle.channel_core.specs.History.{acked_numbers, emitted_acks, early_items, emissions, finished_count, has_ended, is_closed, is_paused, is_up, next_in_order, owed_acks, put_items, put_messages, released_items, taken_items, unacked_numbers}
 use Rattle.channel_core.specs.Legal.{IsAnswered, IsLegal}
 use Rattle.channel_core.specs.Numbers.{has_number}
 use Rattle.channel_core.specs.Resending.{marked_due, sent_since_opened}
@@ -82,6 +82,18 @@ ReleasedIsInOrder =
     → IsLegal w h
     → released_items h ≡ items_in_order (taken_items h) 0 (next_in_order h)
 
+-- an end answers at most once that the last item is released
+abbrev pub FinishedIsOnce : Type 0
+FinishedIsOnce = (w : ℕ) (h : List Entry) → IsLegal w h → finished_count h ≤ 1
+
+-- after an item that was put in as the last no other is put in
+abbrev pub NothingFollowsTheLast : Type 0
+NothingFollowsTheLast =
+    (w : ℕ) (h more : List Entry)
+    → IsLegal w (h ++ more)
+    → has_ended h ≡ true
+    → put_messages (h ++ more) ≡ put_messages h
+
 -- how much an end with the window w keeps
 pub record IsWithinWindow (w : ℕ) (h : List Entry) : Type 0 where
   pub unacked : length (unacked_numbers h) ≤ w
@@ -145,6 +157,25 @@ NothingIsBeyond =
     → IsLegalWorld w world
     → IsHonest world
     → All (λ x. x.entry.answer ≢ EndAnswer.Heard Heard.Beyond) world
+
+-- no message that an end hears is answered as past the end of its direction
+abbrev pub NothingIsPastTheEnd : Type 0
+NothingIsPastTheEnd =
+    (w : ℕ) (world : List Event) (n : ℕ)
+    → IsLegalWorld w world
+    → IsHonest world
+    → All (λ x. x.entry.answer ≢ EndAnswer.Heard (Heard.PastEnd n)) world
+
+-- an end has answered that the last item is released exactly where the other end put in an item as the
+-- last, and all that was put in there is released
+abbrev pub FinishedIsWhole : Type 0
+FinishedIsWhole =
+    (w : ℕ) (world : List Event) (end : Side)
+    → IsLegalWorld w world
+    → IsHonest world
+    → (finished_count (history_of end world) ≡ 1)
+    ↔ ((has_ended (history_of (other end) world) ≡ true)
+    × (released_items (history_of end world) ≡ put_items (history_of (other end) world)))
 
 -- after one exchange without a loss, at the end of which neither end is closed, each end has
 -- released all that the other put in

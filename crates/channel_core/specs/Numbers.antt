@@ -1,5 +1,5 @@
 -- Numbers in a list, and the least one that is missing.
-use Rattle.std.specs.Prelude.{ℕ, ◌+◌, zero, suc, Bool, not, Option, Some, None, List, map, if◌then◌else◌, nat_eq, unwrap_or}
+use Rattle.std.specs.Prelude.{ℕ, ◌+◌, zero, suc, Bool, not, ◌&&◌, Option, Some, None, List, map, if◌then◌else◌, nat_eq, nat_lt, unwrap_or}
 use Rattle.std.specs.List.{list_any, sum}
 use Rattle.chan_values.specs.declared.item.Item.{Item}
 
@@ -22,6 +22,10 @@ least_below test (suc bound) =
 unfoldable pub least_absent : List ℕ → ℕ
 least_absent numbers =
     unwrap_or (least_below (λ n. not (has_number numbers n)) (sum numbers + 2)) 0
+
+-- the least number of the list above this one
+abbrev pub least_above : List ℕ → ℕ → Option ℕ
+least_above numbers n = least_below (λ m. nat_lt n m && has_number numbers m) (sum numbers + 1)
 
 -- the numbers of a list of numbered items
 abbrev pub numbers_of : List (ℕ × Item) → List ℕ

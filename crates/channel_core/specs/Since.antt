@@ -1,5 +1,5 @@
 -- What has been so since an entry of a history: one begins it, and none after that one ends it.
-use Rattle.std.specs.Prelude.{◌≡◌, ◌≢◌, ℕ, ◌<◌, ◌⊎◌, List, ◌∷◌, ◌++◌, length}
+use Rattle.std.specs.Prelude.{◌≡◌, ◌≢◌, ℕ, ◌<◌, ◌⊎◌, Bool, List, ◌∷◌, ◌++◌, length}
 use Rattle.std.specs.List.{All}
 use Rattle.chan_values.specs.declared.item.Item.{Item}
 use Rattle.resend_queue.specs.declared.answer.Sent.{Sent}
@@ -64,6 +64,7 @@ IsAckOf n e =
 abbrev pub IsTakenOrLate : EndAnswer → Type 0
 IsTakenOrLate answer =
     ((items : List Item) × (answer ≡ EndAnswer.Heard (Heard.Released items)))
+    ⊎ ((items : List Item) × (answer ≡ EndAnswer.Heard (Heard.Finished items)))
     ⊎ (answer ≡ EndAnswer.Heard Heard.Late)
 
 -- the stream message with this number and MessageId was taken or came late, where fewer than w were
@@ -71,7 +72,8 @@ IsTakenOrLate answer =
 pub record FindsRoom (w n : ℕ) (id : List ℕ) (before : List Entry) (e : Entry) : Type 0 where
   pub now : ℕ
   pub item : Item
-  pub call : e.call ≡ EndCall.Heard now (Incoming.Stream n id item)
+  pub last : Bool
+  pub call : e.call ≡ EndCall.Heard now (Incoming.Stream n id item last)
   pub answer : IsTakenOrLate e.answer
   pub room : length (owed_acks w before) < w
   pub new : All (λ p. p.0 ≢ n) (owed_acks w before)

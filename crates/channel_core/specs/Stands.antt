@@ -3,13 +3,15 @@ use Rattle.std.specs.Prelude.{◌≡◌, ℕ, Bool, Some, None, List, [], ◌∷
 use Rattle.std.specs.List.{filter_map}
 use Rattle.std.specs.List.Sorted.{IsPermutation}
 use Rattle.std.specs.Option.{option_map}
+use Rattle.resend_queue.specs.declared.answer.Kept.{Kept}
 use Rattle.resend_queue.specs.Queue.{Pending, QueueState}
 use Rattle.resend_queue.specs.RoundTrips.{RoundTrip}
 use Rattle.receive_window.specs.Window.{WindowState}
+use Rattle.channel_core.specs.declared.answer.Put.{Put}
 use Rattle.channel_core.specs.declared.call.EndAnswer.{EndAnswer}
 use Rattle.channel_core.specs.declared.call.EndCall.{EndCall}
 use Rattle.channel_core.specs.Call.{Entry}
-use Rattle.channel_core.specs.History.{PutMessage, early_items, emitted_numbers, is_closed, is_paused, is_up, lowest_unacked, next_in_order, owed_acks, put_messages, unacked_numbers}
+use Rattle.channel_core.specs.History.{PutMessage, early_items, emitted_numbers, has_ended, is_closed, is_paused, is_up, last_number, lowest_unacked, next_in_order, owed_acks, put_messages, unacked_numbers}
 use Rattle.channel_core.specs.Legal.{IsLegal}
 use Rattle.channel_core.specs.Numbers.{has_number}
 use Rattle.channel_core.specs.Resending.{due_count, last_moment, marked_due, round_trip, sent_since_opened, transmissions}
@@ -39,6 +41,7 @@ pending_message h n m =
       id = m.id;
       date = m.date;
       item = m.item;
+      last = m.last;
       emitted =
           if has_number (emitted_numbers h) n then Some (last_moment (transmissions h) n) else None;
       sent = has_number (sent_since_opened h) n;
@@ -56,7 +59,15 @@ queue_after w h =
           (λ n. option_map (pending_message h n) (slice_get (put_messages h) n))
           (unacked_numbers h);
       dues = due_count h (lowest_unacked h);
+      ended = has_ended h;
     }
+
+-- the answer of an end to a put, by that of its queue
+abbrev pub put_answer_of : Kept → Put
+put_answer_of (Kept.Seq n) = Put.Seq n
+put_answer_of (Kept.Past item) = Put.Past item
+put_answer_of (Kept.Spent item) = Put.Spent item
+put_answer_of (Kept.Full item) = Put.Full item
 
 -- an end with the window w keeps what the entries tell
 pub record Stands (w : ℕ) (end : EndState) (h : List Entry) : Type 0 where
@@ -65,6 +76,7 @@ pub record Stands (w : ℕ) (end : EndState) (h : List Entry) : Type 0 where
   pub expected : end.received.expected ≡ next_in_order h
   -- the items that were taken out of order and wait, in some order
   pub early : IsPermutation (early_items h) end.received.early
+  pub last : end.received.last ≡ last_number h
   pub estimate : end.estimate ≡ round_trip h
   pub owed : end.owed ≡ owed_acks w h
   pub up : end.up ≡ is_up h

@@ -1,6 +1,6 @@
 -- What an end sends as bytes, by the names, flags and bodies of AWS Session Manager's data channel.
 pub use Rattle.channel_core.specs.Condition.{CanBeEncoded}
-use Rattle.std.specs.Prelude.{ℕ, ◌==◌, if◌then◌else◌, pos, true, List, codes}
+use Rattle.std.specs.Prelude.{ℕ, ◌+◌, ◌/◌, ◌%◌, ◌==◌, Bool, if◌then◌else◌, pos, true, List, codes}
 use Rattle.chan_values.specs.declared.side.Side.{Side}
 use Rattle.chan_values.specs.declared.side.Side.TheVariants.{Plugin, Agent}
 use Rattle.chan_values.specs.Sides.{other}
@@ -16,9 +16,13 @@ abbrev pub data_name : Side → List ℕ
 data_name Plugin = codes "input_stream_data"
 data_name Agent = codes "output_stream_data"
 
--- Flags of a stream message: SYN on the first
-abbrev pub stream_flags : ℕ → ℕ
-stream_flags seq = if seq == 0 then 1 else 0
+-- Flags of a stream message: SYN on the first, FIN on the last
+abbrev pub stream_flags : ℕ → Bool → ℕ
+stream_flags seq last = (if seq == 0 then 1 else 0) + (if last then 2 else 0)
+
+-- whether these flags have FIN, their bit 1
+abbrev pub has_fin : ℕ → Bool
+has_fin flags = flags / 2 % 2 == 1
 
 -- a stream message
 abbrev pub stream_message : Side → Sent → Message
@@ -27,7 +31,7 @@ stream_message side sent = record {
   schema = 1;
   date = sent.date;
   seq = pos sent.seq;
-  flags = stream_flags sent.seq;
+  flags = stream_flags sent.seq sent.last;
   id = sent.id;
   ptype = sent.item.ptype;
   payload = sent.item.payload;

@@ -32,11 +32,13 @@ abbrev pub IsLegalWorld : ℕ → List Event → Type 0
 IsLegalWorld w world = (side : Side) → IsLegal w (history_of side world)
 
 -- What a call hears is among the emissions of the other end: a stream message with its number,
--- MessageId and item, an acknowledgement with its number. What the relay sends may always come.
+-- MessageId and item, as the last or not, an acknowledgement with its number. What the relay sends may always come.
 abbrev pub WasEmitted : List Outgoing → EndCall → Type 0
-WasEmitted emissions (EndCall.Heard now (Incoming.Stream n id item)) =
+WasEmitted emissions (EndCall.Heard now (Incoming.Stream n id item last)) =
     (date : ℕ)
-    × Contains emissions (Outgoing.Stream (record { seq = n; id = id; date = date; item = item }))
+    × Contains
+    emissions
+    (Outgoing.Stream (record { seq = n; id = id; date = date; item = item; last = last }))
 WasEmitted emissions (EndCall.Heard now (Incoming.Ack n)) =
     (id : List ℕ) × (date : ℕ) × Contains emissions (Outgoing.Ack n id date)
 WasEmitted emissions call = Unit {0}

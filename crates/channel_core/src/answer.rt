@@ -3,14 +3,16 @@
 use crate::{Incoming, Outgoing};
 use chan_values::{Item, Items};
 
-/// The answer to a put: the number of a new stream message, or why the item was not taken. It is
-/// handed back then.
+/// The answer to a put, as the last or not: the number of a new stream message, or why the item was
+/// not taken. It is handed back then.
 #[derive(Debug, Drop)]
 pub enum Put {
     /// The item got this sequence number.
     Seq(u64),
     /// The end is closed.
     Closed(Item),
+    /// An item was put in as the last before.
+    Past(Item),
     /// All 2^63 - 1 sequence numbers are used up.
     Spent(Item),
     /// The send window is full.
@@ -22,10 +24,16 @@ pub enum Put {
 pub enum Heard {
     /// A stream message was taken, and these items are now in order; none if it came early.
     Released(Items),
+    /// The same, and the last of these items is the last that the other end put in: all are released.
+    Finished(Items),
     /// A stream message was taken before. It is acknowledged again, where there is room to owe it.
     Late,
     /// The number of a stream message is outside the receive window. It is not acknowledged.
     Beyond,
+    /// A stream message is at odds with the end of its direction: the message with this number was
+    /// taken, as the last one, below it, or above it where it says that it is the last itself. It is
+    /// not acknowledged.
+    PastEnd(u64),
     /// The message with this number is acknowledged now.
     Acked(u64),
     /// No message with this number waits for an acknowledgement.
@@ -74,8 +82,11 @@ pub struct Look {
     pub low: u64,
     /// The next sequence number to release (RCV.NXT).
     pub expected: u64,
-    /// How many items the send window has room for; 0 where the end is closed.
+    /// How many items may be put in: the room of the send window, 0 where the end is closed or
+    /// finished.
     pub room: u64,
     /// Whether the end is closed.
     pub closed: bool,
+    /// Whether an item was put in as the last.
+    pub finished: bool,
 }

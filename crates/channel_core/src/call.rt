@@ -8,6 +8,8 @@ use chan_values::Item;
 pub enum EndCall {
     /// The user puts in an item, which gets this MessageId.
     Put { item: Item, id: [u8; 16], now: u64 },
+    /// The user puts in an item as the last.
+    PutLast { item: Item, id: [u8; 16], now: u64 },
     /// A message comes in.
     Heard { now: u64, incoming: Incoming },
     /// The timers are looked at.
@@ -27,7 +29,7 @@ pub enum EndCall {
 /// The answer to a call of an end.
 #[derive(Debug, Drop)]
 pub enum EndAnswer {
-    /// To a put.
+    /// To a put, as the last or not.
     Put(Put),
     /// To a message that came in.
     Heard(Heard),

@@ -1,6 +1,6 @@
 //! One end of the data channel.
 //!
-//! Four calls bring input: `put` an item of the user, `heard` a message of the other end or the
+//! Four calls bring input: `put` an item of the user (`put_last` the last one), `heard` a message of the other end or the
 //! relay, `opened` and `lost` the state of the connection. `pull` polls for a message to transmit,
 //! `tick` serves the retransmission timer. A driver pulls until Idle after each input and each
 //! tick, and ticks from time to time. All moments are milliseconds.
@@ -17,7 +17,7 @@
 ghost use Rattle.std.specs.Prelude.{◌≡◌, ◌≤◌, ◌<◌, ◌^◌, ℕ, false, [], IfOk, length};
 ghost use Rattle.chan_values.specs.Limits.{max_payload, max_window};
 ghost use Rattle.channel_core.specs.Condition.{CanBeEncoded, IfEmitted, IsNumbered};
-ghost use Rattle.channel_core.specs.Stands.{Follows, Stands};
+ghost use Rattle.channel_core.specs.Stands.{Follows, Stands, put_answer_of};
 ghost use Rattle.channel_core.specs.declared.call.EndAnswer.TheVariants as EndAnswer;
 ghost use Rattle.channel_core.specs.declared.call.EndCall.TheVariants as EndCall;
 ghost use Rattle.channel_core.specs.declared.message.Incoming.TheVariants as Incoming;
@@ -114,11 +114,19 @@ impl End {
         if self.closed {
             return Put::Closed(item);
         }
-        match self.queue.put(item, id, now.max(1)) {
-            Kept::Seq(seq) => Put::Seq(seq),
-            Kept::Spent(item) => Put::Spent(item),
-            Kept::Full(item) => Put::Full(item),
+        put_answer(self.queue.put(item, id, now.max(1)))
+    }
+
+    /// Puts in an item of the user as the last: from then on each put is Past. What the end hears goes
+    /// on. It takes no memory.
+    pub fn put_last(&mut self, item: Item, id: [u8; 16], now: u64) -> Put
+        requires { length item.payload ≤ max_payload }
+        ensures { Follows self.old self.new (EndCall.PutLast item id now) (EndAnswer.Put result) }
+    {
+        if self.closed {
+            return Put::Closed(item);
         }
+        put_answer(self.queue.put_last(item, id, now.max(1)))
     }
 
     /// The next message to transmit: an acknowledgement that is owed, or else a stream message.
@@ -157,7 +165,12 @@ impl End {
             return Heard::AfterClose;
         }
         match incoming {
-            Incoming::Stream { seq, id, item } => self.hear_stream(seq, id, item),
+            Incoming::Stream {
+                seq,
+                id,
+                item,
+                last,
+            } => self.hear_stream(seq, id, item, last),
             Incoming::Ack { seq } => self.hear_ack(now, seq),
             Incoming::Pause => {
                 self.paused = true;
@@ -175,24 +188,34 @@ impl End {
     }
 
     /// Hears a stream message.
-    fn hear_stream(&mut self, seq: u64, id: [u8; 16], item: Item) -> Heard
+    fn hear_stream(&mut self, seq: u64, id: [u8; 16], item: Item, last: bool) -> Heard
         requires open { self.old.closed ≡ false }
         requires number { seq < 2 ^ 63 }
         ensures { (now : ℕ)
-            → (let call = EndCall.Heard now (Incoming.Stream seq id item) in
+            → (let call = EndCall.Heard now (Incoming.Stream seq id item last) in
             Follows self.old self.new call (EndAnswer.Heard result)) }
     {
-        match self.received.take(seq, item) {
+        match self.received.take(seq, item, last) {
             Take::Released(items) => {
                 self.owed.note(seq, id);
                 Heard::Released(items)
+            }
+            Take::Finished(items) => {
+                self.owed.note(seq, id);
+                Heard::Finished(items)
             }
             Take::Late => {
                 self.owed.note(seq, id);
                 Heard::Late
             }
             Take::Beyond => Heard::Beyond,
-            Take::NoMemory(item) => Heard::NoMemory(Incoming::Stream { seq, id, item }),
+            Take::PastEnd(end) => Heard::PastEnd(end),
+            Take::NoMemory(item) => Heard::NoMemory(Incoming::Stream {
+                seq,
+                id,
+                item,
+                last,
+            }),
         }
     }
 
@@ -234,7 +257,8 @@ impl End {
     {
         let next = self.queue.next();
         let low = self.queue.low();
-        let room = if self.closed {
+        let finished = self.queue.ended();
+        let room = if self.closed || finished {
             0
         } else {
             self.window.saturating_sub(next.saturating_sub(low))
@@ -245,6 +269,19 @@ impl End {
             expected: self.received.expected(),
             room,
             closed: self.closed,
+            finished,
         }
+    }
+}
+
+/// The answer of an end to a put, by that of its queue.
+fn put_answer(kept: Kept) -> Put
+    ensures { result ≡ put_answer_of kept }
+{
+    match kept {
+        Kept::Seq(seq) => Put::Seq(seq),
+        Kept::Past(item) => Put::Past(item),
+        Kept::Spent(item) => Put::Spent(item),
+        Kept::Full(item) => Put::Full(item),
     }
 }

@@ -14,6 +14,8 @@ pub enum Incoming {
         id: [u8; 16],
         /// The payload and its type.
         item: Item,
+        /// Whether it is the last of its direction.
+        last: bool,
     },
     /// An acknowledgement (`acknowledge`).
     Ack {

@@ -12,7 +12,7 @@ ghost use Rattle.json_bodies.specs.Ack.{ack_text};
 
 use crate::Incoming;
 use crate::wire::InRefusal;
-use crate::wire::encode::data_name;
+use crate::wire::encode::{FIN, data_name};
 use agent_message::{Message, Name, decode};
 use chan_values::{Item, Side};
 use json_bodies::{Ack, ChannelClosed};
@@ -69,6 +69,7 @@ fn stream(message: Message) -> Result<Incoming, InRefusal>
             ptype: message.ptype,
             payload: message.payload,
         },
+        last: message.flags / FIN % 2 == 1,
     })
 }
 

@@ -15,11 +15,11 @@ use std::alloc::Global;
 /// SchemaVersion, the only one that is written.
 const SCHEMA: u32 = 1;
 
-/// Flags of the first stream message of a side.
+/// The flag of the first stream message of a side.
 const SYN: u64 = 1;
 
-/// Flags of an acknowledgement.
-const SYN_FIN: u64 = 3;
+/// The flag of the last stream message of a side.
+pub(crate) const FIN: u64 = 2;
 
 /// The bytes of what an end of this side emits. A payload is copied once, into them.
 pub fn outgoing(alloc: Global, side: Side, out: &Outgoing) -> Result<Vec<u8>, NoMemory>
@@ -51,7 +51,7 @@ fn stream_head(side: Side, sent: &Sent) -> Head
           schema = 1;
           date = sent.now.date;
           seq = pos sent.now.seq;
-          flags = stream_flags sent.now.seq;
+          flags = stream_flags sent.now.seq sent.now.last;
           id = sent.now.id;
           ptype = sent.now.item.ptype;
         } }
@@ -61,7 +61,7 @@ fn stream_head(side: Side, sent: &Sent) -> Head
         schema: SCHEMA,
         date: sent.date,
         seq: sent.seq as i64,
-        flags: stream_flags(sent.seq),
+        flags: stream_flags(sent.seq, sent.last),
         id: sent.id,
         ptype: sent.item.ptype,
     }
@@ -103,7 +103,7 @@ fn ack_head(id: &[u8; 16], date: u64) -> Head
         schema: SCHEMA,
         date,
         seq: 0,
-        flags: SYN_FIN,
+        flags: SYN + FIN,
         id: *id,
         ptype: 0,
     }
@@ -142,8 +142,10 @@ fn data_text(side: Side) -> &'static str
     }
 }
 
-fn stream_flags(seq: u64) -> u64
-    ensures { result ≡ stream_flags seq }
+fn stream_flags(seq: u64, last: bool) -> u64
+    ensures { result ≡ stream_flags seq last }
 {
-    if seq == 0 { SYN } else { 0 }
+    let syn = if seq == 0 { SYN } else { 0 };
+    let fin = if last { FIN } else { 0 };
+    syn + fin
 }
