@@ -15,19 +15,19 @@ fn item(alloc: Global, byte: u8) -> Result<Item, Fail> {
 fn an_early_item_waits_for_the_one_before_it(rt: HostRuntime) -> Result<(), Fail> {
     let alloc = rt.alloc();
     let mut window = Window::new(alloc, 3).expect(&rt, "there is memory");
-    let fourth = window.take(3, item(alloc, b'd')?);
+    let fourth = window.take(3, item(alloc, b'd')?, false);
     assert!(rt; matches!(fourth, Take::Beyond), "three is outside");
-    let third = window.take(2, item(alloc, b'c')?);
+    let third = window.take(2, item(alloc, b'c')?, false);
     assert!(rt; releases(&third, b""), "it is early");
-    let again = window.take(2, item(alloc, b'x')?);
+    let again = window.take(2, item(alloc, b'x')?, false);
     assert!(rt; matches!(again, Take::Late), "it was taken");
-    let second = window.take(1, item(alloc, b'b')?);
+    let second = window.take(1, item(alloc, b'b')?, false);
     assert!(rt; releases(&second, b""), "it is early too");
     assert!(rt; window.held() == 2, "both wait");
-    let first = window.take(0, item(alloc, b'a')?);
+    let first = window.take(0, item(alloc, b'a')?, false);
     assert!(rt; releases(&first, b"abc"), "all are in order");
     assert!(rt; window.held() == 0, "none waits");
-    let next = window.take(3, item(alloc, b'd')?);
+    let next = window.take(3, item(alloc, b'd')?, false);
     assert!(rt; releases(&next, b"d"), "three is next");
     assert!(rt; window.expected() == 4, "then four");
     Ok(())

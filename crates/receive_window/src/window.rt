@@ -1,8 +1,8 @@
 //! The receive window: stream messages come in any order and leave by number, each once.
 
-ghost use Rattle.std.specs.Prelude.{◌≡◌, ◌↔◌, ◌+◌, ◌-◌, ◌^◌, ◌<◌, ◌≤◌, ◌∷◌, IfOk, IsTrue, length};
+ghost use Rattle.std.specs.Prelude.{◌≡◌, ◌↔◌, ℕ, ◌+◌, ◌-◌, ◌^◌, ◌<◌, ◌≤◌, ◌∷◌, IfOk, IsTrue, length};
 ghost use Rattle.chan_values.specs.Limits.{max_window};
-ghost use Rattle.receive_window.specs.Window.{AreDifferent, empty_window, is_taken, Releases, IfReleased, IfRefused};
+ghost use Rattle.receive_window.specs.Window.{AreDifferent, IfRefused, IfTaken, IsNew, IsPastEnd, Releases, empty_window, is_last_among, is_taken, last_with};
 
 use crate::release::release;
 use crate::take::Take;
@@ -18,6 +18,8 @@ pub struct Window {
     window: u64,
     // Its base is the next number, which it does not have.
     early: SlotRing<Item>,
+    // The number of the last message of the direction, once it was taken.
+    last: Option<u64>,
 }
 
 impl Model for Window {
@@ -30,6 +32,7 @@ impl Model for Window {
       window = w.window;
       expected = w.early.base;
       early = w.early.held;
+      last = w.last;
     } };
 
     ghost invariant = { λ w. IsReassembly w.window w.early };
@@ -46,18 +49,22 @@ impl Window {
             alloc,
             window,
             early: SlotRing::new(alloc, 0, window as usize)?,
+            last: None,
         })
     }
 
-    /// Takes a stream message, where it is new and inside the window. It takes memory for the list of
-    /// what it releases, and no other.
+    /// Takes a stream message, where it is new, inside the window and not past the end of its direction.
+    /// It takes memory for the list of what it releases, and no other.
     #[tactic(auto, using(crate::proofs::ItemLemmas::numbers_differ))]
-    pub fn take(&mut self, seq: u64, item: Item) -> Take
+    pub fn take(&mut self, seq: u64, item: Item, last: bool) -> Take
         requires { seq < 2 ^ 63 }
         ensures late { (result ≡ Take.Late) ↔ IsTrue (is_taken self.old seq) }
         ensures beyond { (result ≡ Take.Beyond) ↔ (self.old.expected + self.old.window ≤ seq) }
-        ensures released { IfReleased result (λ items.
-            Releases self.old ((seq, item) ∷ self.old.early) items self.new) }
+        ensures past_end { (m : ℕ) → (result ≡ Take.PastEnd m)
+            ↔ (IsNew self.old seq × IsPastEnd self.old seq last m) }
+        ensures taken { IfTaken result (λ items finished.
+            Releases self.old ((seq, item) ∷ self.old.early) (last_with self.old.last seq last)
+            items finished self.new) }
         ensures refused { IfRefused result item self.old self.new }
         ensures different { AreDifferent self.new.early }
     {
@@ -69,8 +76,13 @@ impl Window {
         if ahead >= self.window {
             return Take::Beyond;
         }
+        if let Some(end) = self.end_passed(seq, last) {
+            return Take::PastEnd(end);
+        }
+        let end = if last { Some(seq) } else { self.last };
         if ahead > 0 {
             let _none = self.early.set(seq, item);
+            self.last = end;
             return Take::Released(Items::none(self.alloc));
         }
         let next = self.early.next_free(seq + 1);
@@ -79,7 +91,30 @@ impl Window {
         };
         items.push_reserved(item);
         release(&mut self.early, next, &mut items);
-        Take::Released(Items::new(items))
+        self.last = end;
+        if is_last_among(end, expected, next) {
+            Take::Finished(Items::new(items))
+        } else {
+            Take::Released(Items::new(items))
+        }
+    }
+
+    /// The number that shows that a new message comes after the end of its direction, or is not the
+    /// last. Only for one that is said to be the last it looks at each slot above it, once.
+    fn end_passed(&self, seq: u64, last: bool) -> Option<u64>
+        requires from { self.now.expected ≤ seq }
+        requires inside { seq < self.now.expected + self.now.window }
+        ensures { (m : ℕ) → (result ≡ Some m) ↔ IsPastEnd self.now seq last m }
+    {
+        if let Some(end) = self.last && end < seq {
+            return Some(end);
+        }
+        if !last {
+            return None;
+        }
+        let beyond = self.early.base() + self.window;
+        let above = self.early.next_taken(seq + 1, beyond);
+        if above < beyond { Some(above) } else { None }
     }
 
     /// The least number that was not taken.
@@ -96,5 +131,15 @@ impl Window {
         ensures few { result ≤ self.now.window - 1 }
     {
         self.early.len() as u64
+    }
+}
+
+/// Whether the last message, if it was taken, is among those from the first bound up to the second.
+fn is_last_among(last: Option<u64>, from: u64, to: u64) -> bool
+    ensures { result ≡ is_last_among last from to }
+{
+    match last {
+        Some(end) => from <= end && end < to,
+        None => false,
     }
 }
