@@ -74,9 +74,9 @@ items_in_order items from to = filter_map (item_with items) (range_with_len from
 pub record Releases
     (old : WindowState)
     (arrived : List (ℕ × Item))
-    (last : Option ℕ)
+    (end : Option ℕ)
     (items : List Item)
-    (finished : Bool)
+    (done : Bool)
     (new : WindowState)
     : Type 0 where
   -- the window stays
@@ -95,9 +95,9 @@ pub record Releases
   -- each once
   pub different : AreDifferent new.early
   -- which message is the last
-  pub last : new.last ≡ last
+  pub last : new.last ≡ end
   -- and whether it is among those that are released
-  pub finished : finished ≡ is_last_among last old.expected new.expected
+  pub finished : done ≡ is_last_among end old.expected new.expected
 
 -- a message that is taken: what is released, and whether the direction is finished with it
 abbrev pub IfTaken : Take → (List Item → Bool → Type 0) → Type 0

@@ -2,7 +2,7 @@
 
 ghost use Rattle.std.specs.Prelude.{◌≡◌, ◌↔◌, ℕ, ◌+◌, ◌-◌, ◌^◌, ◌<◌, ◌≤◌, ◌∷◌, IfOk, IsTrue, length};
 ghost use Rattle.chan_values.specs.Limits.{max_window};
-ghost use Rattle.receive_window.specs.Window.{AreDifferent, IfRefused, IfTaken, IsNew, IsPastEnd, Releases, empty_window, is_last_among, is_taken, last_with};
+ghost use Rattle.receive_window.specs.Window.{AreDifferent, IfRefused, IfTaken, IsNew, IsPastEnd, Releases, empty_window, is_below, is_last_among, is_taken, last_with};
 
 use crate::release::release;
 use crate::take::Take;
@@ -106,8 +106,8 @@ impl Window {
         requires inside { seq < self.now.expected + self.now.window }
         ensures { (m : ℕ) → (result ≡ Some m) ↔ IsPastEnd self.now seq last m }
     {
-        if let Some(end) = self.last && end < seq {
-            return Some(end);
+        if is_below(self.last, seq) {
+            return self.last;
         }
         if !last {
             return None;
@@ -131,6 +131,16 @@ impl Window {
         ensures few { result ≤ self.now.window - 1 }
     {
         self.early.len() as u64
+    }
+}
+
+/// Whether the last message, if it was taken, stands below a number.
+fn is_below(last: Option<u64>, seq: u64) -> bool
+    ensures { result ≡ is_below last seq }
+{
+    match last {
+        Some(end) => end < seq,
+        None => false,
     }
 }
 
