@@ -18,7 +18,7 @@ use Rattle.channel_core.specs.Laws.{AcknowledgedHasArrived, EachNumberIsTakenOnc
 use Rattle.channel_core.specs.Legal.{IsAnswered, IsNoMemory, answer_to, answer_to_heard, answer_to_incoming}
 use Rattle.channel_core.specs.Numbers.{has_number, numbers_of}
 use Rattle.channel_core.specs.World.{Event, IsHonest, IsLegalWorld, WasEmitted, history_of}
-use Rattle.channel_core.proofs.AgreementLemmas.{Agree, IsHeardOf, IsPutAs, IsSentFrom}
+use Rattle.channel_core.proofs.AgreementLemmas.{Agree, IsHeardOf, IsPutAs, IsSentFrom, put_lasts}
 use Rattle.channel_core.proofs.ReceiverLemmas.{agree}
 use Rattle.channel_core.proofs.HistoryLemmas.{by_pushes}
 use Rattle.channel_core.proofs.ItemLemmas.{item_with-contains, item_with-meets, item_with-there, filter_map-reads}
@@ -72,16 +72,19 @@ not_beyond w now s r incoming agree emitted =
     inside : (incoming : Incoming)
         → WasEmitted (emissions s) (EndCall.Heard now incoming)
         → answer_to_incoming w r incoming ≢ Heard.Beyond
-    inside (Incoming.Stream n id item) emitted =
-        let out = Outgoing.Stream (record { seq = n; id = id; date = emitted.0; item = item }) in
+    inside (Incoming.Stream n id item last) emitted =
+        let out = Outgoing.Stream
+        (record { seq = n; id = id; date = emitted.0; item = item; last = last }) in
         let bound = lowest_unacked s + w in
-        let sent = All-contains (IsSentFrom (put_items s) bound)
+        let sent = All-contains (IsSentFrom (put_items s) (put_lasts s) bound)
         (emissions s) out agree.sent emitted.1 in
         let low = lowest_unacked-le w s r agree in
-        stream_cases w r n item (λ heard. heard ≢ Heard.Beyond)
+        stream_cases w r n item last (λ heard. heard ≢ Heard.Beyond)
         (λ there is. cc)
-        (λ far is. omega (arith, sent.1))
-        (λ absent near is. cc)
+        (λ far is. omega (arith, sent.1.0))
+        (λ m new past is. cc)
+        (λ new so is. cc)
+        (λ new so is. cc)
     inside (Incoming.Ack n) emitted =
         ack_cases r n (λ heard. heard ≢ Heard.Beyond) (λ out before is. cc) (λ is. cc)
     inside Incoming.Pause emitted = λ is. cc
@@ -213,6 +216,7 @@ answer_not_beyond w s r call answer agree emitted answered beyond =
         let heard : answer_to_heard w r incoming ≡ Heard.Beyond = cc in
         not_beyond w now s r incoming agree was heard
     at (EndCall.Put item id now) was is = cc
+    at (EndCall.PutLast item id now) was is = cc
     at (EndCall.Tick now) was is = cc
     at (EndCall.Pull now) was is = cc
     at EndCall.Lost was is = cc

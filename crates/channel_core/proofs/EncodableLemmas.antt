@@ -17,25 +17,9 @@ use Rattle.channel_core.specs.History.{PutMessage, emissions, is_closed, lowest_
 use Rattle.channel_core.specs.Laws.{EmissionsCanBeEncoded}
 use Rattle.channel_core.specs.Legal.{IsAnswered, IsLegal, answer_to_put}
 use Rattle.channel_core.proofs.HistoryLemmas.{by_pushes, emissions-push, owed_acks-push, put_messages-push}
-use Rattle.channel_core.proofs.LegalLemmas.{All-pushed, IsLegal-pushed, answered_cases, by_cases}
+use Rattle.channel_core.proofs.CaseLemmas.{by_cases}
+use Rattle.channel_core.proofs.LegalLemmas.{All-pushed, IsLegal-pushed, answered_cases}
 use Rattle.chan_values.specs.Limits.{max_seq}
-
--- a put that got a number was below the limit
-put_room : (w : ℕ) (h : List Entry) (item : Item) (n : ℕ)
-    → EndAnswer.Put (Put.Seq n) ≡ EndAnswer.Put (answer_to_put w h item)
-    → length (put_messages h) ≢ max_seq + 1
-unfolding answer_to_put
-put_room w h item n =
-    let count = length (put_messages h) in
-    let room : Put = cond (eqb (count - lowest_unacked h) w) (Put.Full item) (Put.Seq count) in
-    let left : Put = cond (eqb count (max_seq + 1)) (Put.Spent item) room in
-    let P : Put → Type 0
-    = λ put. EndAnswer.Put (Put.Seq n) ≡ EndAnswer.Put put → count ≢ max_seq + 1 in
-    cond_both (is_closed h) (Put.Closed item) left P
-    (λ _ never. cc)
-    (λ _. cond_both (eqb count (max_seq + 1)) (Put.Spent item) room P
-    (λ _ never. cc)
-    (λ apart _. eqb-false count (max_seq + 1) apart))
 
 -- the message has a date, and its payload fits
 abbrev Fits : PutMessage → Type 0
@@ -83,13 +67,13 @@ step : (w : ℕ) (h : List Entry) (call : EndCall) (answer : EndAnswer)
     → SoundAfter w h call answer
 step w h call answer sound answered =
     by_cases w h
-    (λ call answer. IsAnswered w h call answer → IsCallable call → SoundAfter w h call answer)
+    (λ call answer. IsCallable call → SoundAfter w h call answer)
     (record {
-      quiet = λ call answer quiet _ _.
+      quiet = λ call answer quiet _.
           rw (quiet.put, quiet.emitted, quiet.owed w (owed_acks w h)) (same _ _ _ sound);
-      seq = λ item id now _ is fits.
-          let m : PutMessage = record { item = item; id = id; date = max now 1 } in
-          let room = seq_room item id now is in
+      seq = λ item id now free fits.
+          let m : PutMessage = record { item = item; id = id; date = max now 1; last = false } in
+          let left = free.left in
           let longer = length_push (put_messages h) m in
           let count = sound.numbers in
           record {
@@ -98,22 +82,40 @@ step w h call answer sound answered =
             small = sound.small;
             encodable = rw append-nil sound.encodable;
           };
-      late = λ now n id item _ _ small.
+      seq_last = λ item id now free fits.
+          let m : PutMessage = record { item = item; id = id; date = max now 1; last = true } in
+          let left = free.left in
+          let longer = length_push (put_messages h) m in
+          let count = sound.numbers in
+          record {
+            numbers = omega arith;
+            fit = All-push Fits (put_messages h) m sound.fit (omega arith, fits);
+            small = sound.small;
+            encodable = rw append-nil sound.encodable;
+          };
+      late = λ now n id item last _ small.
           same _ _ _ (record {
             numbers = sound.numbers;
             fit = sound.fit;
             small = owed_small w (owed_acks w h) n id small sound.small;
             encodable = sound.encodable;
           });
-      released = λ now n id item _ _ _ small.
+      released = λ now n id item last _ _ small.
           same _ _ _ (record {
             numbers = sound.numbers;
             fit = sound.fit;
             small = owed_small w (owed_acks w h) n id small sound.small;
             encodable = sound.encodable;
           });
-      acked = λ now n _ _ _ _. same _ _ _ sound;
-      emit_ack = λ now p owed is _ _.
+      finished = λ now n id item last _ _ small.
+          same _ _ _ (record {
+            numbers = sound.numbers;
+            fit = sound.fit;
+            small = owed_small w (owed_acks w h) n id small sound.small;
+            encodable = sound.encodable;
+          });
+      acked = λ now n _ _ _. same _ _ _ sound;
+      emit_ack = λ now p owed is _.
           let small : All IsSmall (p ∷ owed) = subst (All IsSmall) is sound.small in
           record {
             numbers = rw append-nil sound.numbers;
@@ -122,7 +124,7 @@ step w h call answer sound answered =
             encodable = All-push CanBeEncoded (emissions h) _ sound.encodable
                 (All-head IsSmall p owed small, omega arith);
           };
-      emit_stream = λ now n m below _ is _ _.
+      emit_stream = λ now n m below _ is _.
           let found = get_or_from_slice_get (put_messages h) n m m is in
           let fits : Fits m = subst Fits found (sound.fit n m below) in
           let count = sound.numbers in
@@ -134,17 +136,7 @@ step w h call answer sound answered =
                 All-push CanBeEncoded (emissions h) _ sound.encodable (omega arith, fits.0, fits.1);
           };
     })
-    call answer answered answered
-  where
-    seq_room : (item : Item) (id : List ℕ) (now : ℕ)
-        → IsAnswered w h (EndCall.Put item id now)
-        (EndAnswer.Put (Put.Seq (length (put_messages h))))
-        → length (put_messages h) ≢ max_seq + 1
-    seq_room item id now answered =
-        answered_cases w h (EndCall.Put item id now)
-        (EndAnswer.Put (Put.Seq (length (put_messages h)))) answered
-        (λ is. put_room w h item (length (put_messages h)) is)
-        (λ never. absurd never)
+    call answer answered
 
 -- nothing was called
 sound_start : (w : ℕ) → Sound (put_messages []) (owed_acks w []) (emissions [])

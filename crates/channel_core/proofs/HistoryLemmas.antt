@@ -1,13 +1,15 @@
 -- What one entry more changes in what is read off a history.
-use Rattle.std.proofs.Common.{◌≡◌, ℕ, Bool, false, ◌||◌, Option, List, [], ◌∷◌, ◌++◌, map, sym, ap, subst, ◌∙◌, append_assoc}
+use Rattle.std.proofs.Common.{◌≡◌, ℕ, ◌+◌, Bool, false, cond, ◌||◌, Option, Some, None, List, [], ◌∷◌, ◌++◌, map, refl, sym, ap, subst, ◌∙◌, append_assoc, arith}
 use Rattle.std.specs.List.{cons_option, filter_map, flat_map}
+use Rattle.std.specs.Option.{option_map}
 use Rattle.std.proofs.lemmas.Grind.{flat_map-append, fold-append}
 use Rattle.std.proofs.lemmas.List.{append-nil, map-append}
 use Rattle.std.proofs.lemmas.List.Elements.{filter_map-append}
 use Rattle.std.proofs.lemmas.List.Folds.{list_any-append}
+use Rattle.std.proofs.lemmas.List.Sums.{sum_by-append}
 use Rattle.chan_values.specs.declared.item.Item.{Item}
 use Rattle.channel_core.specs.Call.{Entry, earlier_from, with_earlier}
-use Rattle.channel_core.specs.History.{PutMessage, acked_numbers, closes, emissions, is_closed, is_paused, is_up, item_taken, items_released, message_emitted, message_put, number_acked, owed_acks, owed_after, paused_after, put_items, put_messages, released_items, taken_items, up_after}
+use Rattle.channel_core.specs.History.{PutMessage, TakenMessage, acked_numbers, closes, emissions, is_closed, is_paused, is_up, finished_count, is_finished, items_of, items_released, message_emitted, message_put, message_taken, number_acked, owed_acks, owed_after, paused_after, put_items, put_messages, released_items, taken_items, taken_messages, up_after}
 use Rattle.channel_core.specs.Resending.{marked_after, marked_due, number_transmitted, round_trip_samples, sample_of, sent_after, sent_since_opened, transmissions}
 
 -- what holds of the empty list, and of one element more, holds of each list
@@ -59,10 +61,46 @@ pub acked_numbers-push : (h : List Entry) (e : Entry)
 unfolding acked_numbers
 acked_numbers-push h e = filter_map-append (λ (x : Entry). number_acked x.answer) h (e ∷ [])
 
+pub taken_messages-push : (h : List Entry) (e : Entry)
+    → taken_messages (h ++ e ∷ [])
+    ≡ taken_messages h ++ cons_option (message_taken e.answer e.call) []
+unfolding taken_messages
+taken_messages-push h e =
+    filter_map-append (λ (x : Entry). message_taken x.answer x.call) h (e ∷ [])
+
+-- the number and the item of a message
+abbrev pub item_of : TakenMessage → ℕ × Item
+item_of m = (m.seq, m.item)
+
+-- those of the stream message that this call took
+abbrev pub item_taken : EndAnswer → EndCall → Option (ℕ × Item)
+item_taken answer call = option_map item_of (message_taken answer call)
+
 pub taken_items-push : (h : List Entry) (e : Entry)
     → taken_items (h ++ e ∷ []) ≡ taken_items h ++ cons_option (item_taken e.answer e.call) []
 unfolding taken_items
-taken_items-push h e = filter_map-append (λ (x : Entry). item_taken x.answer x.call) h (e ∷ [])
+taken_items-push h e =
+    ap items_of (taken_messages-push h e)
+    ∙ map-append item_of (taken_messages h) (cons_option (message_taken e.answer e.call) [])
+    ∙ ap (λ (l : List (ℕ × Item)). taken_items h ++ l) (at (message_taken e.answer e.call))
+  where
+    at : (o : Option TakenMessage)
+        → map item_of (cons_option o []) ≡ cons_option (option_map item_of o) []
+    at None = refl
+    at (Some m) = refl
+
+-- what was taken has numbers and items
+pub taken_items-is : (h : List Entry) → taken_items h ≡ items_of (taken_messages h)
+unfolding taken_items
+taken_items-is h = refl
+
+pub finished_count-push : (h : List Entry) (e : Entry)
+    → finished_count (h ++ e ∷ []) ≡ finished_count h + cond (is_finished e.answer) 1 0
+unfolding finished_count
+finished_count-push h e =
+    sum_by-append (λ (x : Entry). cond (is_finished x.answer) 1 0) h (e ∷ [])
+    ∙ (let one : 0 + cond (is_finished e.answer) 1 0 ≡ cond (is_finished e.answer) 1 0
+    = omega arith in ap (λ (k : ℕ). finished_count h + k) one)
 
 pub released_items-push : (h : List Entry) (e : Entry)
     → released_items (h ++ e ∷ []) ≡ released_items h ++ items_released e.answer

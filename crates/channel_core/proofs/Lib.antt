@@ -3,6 +3,7 @@ pub mod AckLemmas
 pub mod AgreementLemmas
 pub mod ReceiverLemmas
 pub mod ArrivalLemmas
+pub mod CaseLemmas
 pub mod CountLemmas
 pub mod DeliveryLemmas
 pub mod EarlyLemmas

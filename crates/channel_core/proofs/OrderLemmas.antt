@@ -11,7 +11,8 @@ use Rattle.channel_core.specs.History.{ack_of, emitted_acks, emissions, message_
 use Rattle.channel_core.specs.Laws.{AcksKeepTheirOrder, IsPrefixOf}
 use Rattle.channel_core.specs.Legal.{IsAnswered, IsLegal}
 use Rattle.channel_core.proofs.HistoryLemmas.{by_pushes, emissions-push, owed_acks-push}
-use Rattle.channel_core.proofs.LegalLemmas.{IsLegal-pushed, by_cases}
+use Rattle.channel_core.proofs.CaseLemmas.{by_cases}
+use Rattle.channel_core.proofs.LegalLemmas.{IsLegal-pushed}
 use Rattle.channel_core.proofs.OwedLemmas.{Acks}
 
 -- ---- in the order of hearing
@@ -58,9 +59,11 @@ order_turns w h call answer answered =
     by_cases w h (OrderTurns w h)
     (record {
       quiet = λ call answer quiet. rw (quiet.emitted, quiet.owed w acks) same;
-      seq = λ item id now apart. same;
-      late = λ now n id item there. order_with w given acks n id;
-      released = λ now n id item absent near. order_with w given acks n id;
+      seq = λ item id now free. same;
+      seq_last = λ item id now free. same;
+      late = λ now n id item last there. order_with w given acks n id;
+      released = λ now n id item last new so. order_with w given acks n id;
+      finished = λ now n id item last new so. order_with w given acks n id;
       acked = λ now n out before. same;
       emit_ack = λ now p rest is. (
         [],

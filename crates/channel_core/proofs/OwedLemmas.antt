@@ -67,10 +67,14 @@ different_after : (w : ℕ) (acks : Acks) (answer : EndAnswer) (call : EndCall)
     → AllPairs (λ p q. p.0 ≢ q.0) (owed_after w acks answer call)
 different_after w acks
     (EndAnswer.Heard (Heard.Released items))
-    (EndCall.Heard now (Incoming.Stream n id item)) different =
+    (EndCall.Heard now (Incoming.Stream n id item last)) different =
     different_with w acks n id different
 different_after w acks
-    (EndAnswer.Heard Heard.Late) (EndCall.Heard now (Incoming.Stream n id item)) different =
+    (EndAnswer.Heard (Heard.Finished items))
+    (EndCall.Heard now (Incoming.Stream n id item last)) different =
+    different_with w acks n id different
+different_after w acks
+    (EndAnswer.Heard Heard.Late) (EndCall.Heard now (Incoming.Stream n id item last)) different =
     different_with w acks n id different
 different_after w acks (EndAnswer.Pull (Pull.Emit (Outgoing.Ack n id date))) call different =
     different_drop acks different

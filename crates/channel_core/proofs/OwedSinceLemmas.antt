@@ -17,20 +17,22 @@ use Rattle.channel_core.specs.Legal.{IsAnswered, IsLegal, items_released_by}
 use Rattle.channel_core.specs.Since.{FindsRoom, IsAckOf, IsTakenOrLate}
 use Rattle.channel_core.proofs.HistoryLemmas.{owed_acks-push}
 use Rattle.channel_core.proofs.ItemLemmas.{first_apart}
-use Rattle.channel_core.proofs.LegalLemmas.{IsLegal-pushed, IsQuiet, by_cases}
+use Rattle.channel_core.proofs.CaseLemmas.{IsQuiet, by_cases}
+use Rattle.channel_core.proofs.LegalLemmas.{IsLegal-pushed}
 use Rattle.channel_core.proofs.SinceLemmas.{since_holds}
 use Rattle.channel_core.proofs.OwedLemmas.{Acks, absent_from, absent_is, each_number_is_owed_once}
 
 -- ---- since its message was heard
 
 -- a message that was taken or came late is owed
-owed_after-heard : (w : ℕ) (acks : Acks) (now n : ℕ) (id : List ℕ) (item : Item)
+owed_after-heard : (w : ℕ) (acks : Acks) (now n : ℕ) (id : List ℕ) (item : Item) (last : Bool)
     (answer : EndAnswer)
     → IsTakenOrLate answer
-    → owed_after w acks answer (EndCall.Heard now (Incoming.Stream n id item))
+    → owed_after w acks answer (EndCall.Heard now (Incoming.Stream n id item last))
     ≡ owed_with w acks n id
-owed_after-heard w acks now n id item answer (inl taken) = rw taken.1 refl
-owed_after-heard w acks now n id item answer (inr late) = rw late refl
+owed_after-heard w acks now n id item last answer (inl taken) = rw taken.1 refl
+owed_after-heard w acks now n id item last answer (inr (inl taken)) = rw taken.1 refl
+owed_after-heard w acks now n id item last answer (inr (inr late)) = rw late refl
 
 -- where nothing is added or paid, the same is owed
 stays : {Finds Pays : Type 0} (after acks : Acks) (x : ℕ × List ℕ)
@@ -55,15 +57,15 @@ OwedStep w n id h call answer =
 
 -- a message that was taken or came late
 heard_step : (w n : ℕ) (id : List ℕ) (h : List Entry) (now k : ℕ) (id' : List ℕ) (item : Item)
-    (answer : EndAnswer)
+    (last : Bool) (answer : EndAnswer)
     → IsTakenOrLate answer
     → (¬ IsAckOf n
-    (record { call = EndCall.Heard now (Incoming.Stream k id' item); answer = answer }))
-    → OwedStep w n id h (EndCall.Heard now (Incoming.Stream k id' item)) answer
-heard_step w n id h now k id' item answer heard no_ack =
+    (record { call = EndCall.Heard now (Incoming.Stream k id' item last); answer = answer }))
+    → OwedStep w n id h (EndCall.Heard now (Incoming.Stream k id' item last)) answer
+heard_step w n id h now k id' item last answer heard no_ack =
     subst
     (λ (l : Acks). Contains l (n, id) ↔ Rest)
-    (sym (owed_after-heard w acks now k id' item answer heard))
+    (sym (owed_after-heard w acks now k id' item last answer heard))
     (cond_both (there || full) acks (acks ++ (k, id') ∷ [])
     (λ (l : Acks). Contains l (n, id) ↔ Rest)
     (λ either. (
@@ -93,7 +95,7 @@ heard_step w n id h now k id' item answer heard no_ack =
     acks = owed_acks w h
 
     e : Entry
-    e = record { call = EndCall.Heard now (Incoming.Stream k id' item); answer = answer }
+    e = record { call = EndCall.Heard now (Incoming.Stream k id' item last); answer = answer }
 
     Rest : Type 0
     Rest = FindsRoom w n id h e ⊎ ((¬ IsAckOf n e) × Contains acks (n, id))
@@ -124,6 +126,7 @@ heard_step w n id h now k id' item answer heard no_ack =
         record {
           now = now;
           item = item;
+          last = last;
           call = rw (number, ids) refl;
           answer = heard;
           room = ltb-true (length acks) w (not-false (ltb (length acks) w) parts.1);
@@ -191,16 +194,23 @@ owed_steps w n id h call answer answered =
           stays (owed_after w acks answer call) acks (n, id) (quiet.owed w acks)
           (owes call answer quiet)
           (λ ack. let emitted = quiet.emitted in let is = ap message_emitted ack.2 in cc);
-      seq = λ item id' now apart.
+      seq = λ item id' now free.
           stays acks acks (n, id) refl
           (λ finds. let is = finds.call in cc) (λ ack. let is = ack.2 in cc);
-      late = λ now k id' item there.
-          heard_step w n id h now k id' item (EndAnswer.Heard Heard.Late) (inr refl)
+      seq_last = λ item id' now free.
+          stays acks acks (n, id) refl
+          (λ finds. let is = finds.call in cc) (λ ack. let is = ack.2 in cc);
+      late = λ now k id' item last there.
+          heard_step w n id h now k id' item last (EndAnswer.Heard Heard.Late) (inr (inr refl))
           (λ ack. let is = ack.2 in cc);
-      released = λ now k id' item absent near.
+      released = λ now k id' item last new so.
           let items = items_released_by (taken_items h) k item in
-          heard_step w n id h now k id' item (EndAnswer.Heard (Heard.Released items))
+          heard_step w n id h now k id' item last (EndAnswer.Heard (Heard.Released items))
           (inl (items, refl)) (λ ack. let is = ack.2 in cc);
+      finished = λ now k id' item last new so.
+          let items = items_released_by (taken_items h) k item in
+          heard_step w n id h now k id' item last (EndAnswer.Heard (Heard.Finished items))
+          (inr (inl (items, refl))) (λ ack. let is = ack.2 in cc);
       acked = λ now k out before.
           stays acks acks (n, id) refl
           (λ finds. let is = finds.call in cc) (λ ack. let is = ack.2 in cc);
@@ -217,7 +227,7 @@ owed_steps w n id h call answer answered =
     owes call answer quiet finds =
         let none = quiet.owed 1 [] in
         let one = ap (owed_after 1 [] answer) finds.call in
-        let is = owed_after-heard 1 [] finds.now n id finds.item answer finds.answer in
+        let is = owed_after-heard 1 [] finds.now n id finds.item finds.last answer finds.answer in
         let never : ◌≡◌ {A = Acks} [] ((n, id) ∷ []) = sym none ∙ one ∙ is in
         cc
 

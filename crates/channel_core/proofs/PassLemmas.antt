@@ -12,14 +12,14 @@ use Rattle.channel_core.specs.declared.message.Outgoing.{Outgoing}
 use Rattle.channel_core.specs.declared.answer.Pull.{Pull}
 use Rattle.channel_core.specs.Call.{Entry}
 use Rattle.channel_core.specs.Exchange.{IsPulled, incoming_of}
-use Rattle.channel_core.specs.History.{emissions, is_closed, is_paused, is_up, item_taken, message_put, paused_after, put_messages, taken_items, up_after}
+use Rattle.channel_core.specs.History.{emissions, is_closed, is_paused, is_up, message_put, paused_after, put_messages, taken_items, up_after}
 use Rattle.channel_core.specs.Legal.{IsAnswered, answer_to_heard, answer_to_incoming}
 use Rattle.channel_core.specs.Numbers.{has_number, numbers_of}
 use Rattle.channel_core.specs.Resending.{sent_after, sent_since_opened}
 use Rattle.channel_core.specs.World.{Event, WasEmitted}
 use Rattle.channel_core.proofs.AgreementLemmas.{Agree}
 use Rattle.channel_core.proofs.DeliveryLemmas.{not_beyond}
-use Rattle.channel_core.proofs.HistoryLemmas.{emissions-push, is_paused-push, is_up-push, put_messages-push, sent_since_opened-push, taken_items-push}
+use Rattle.channel_core.proofs.HistoryLemmas.{emissions-push, is_paused-push, is_up-push, item_taken, put_messages-push, sent_since_opened-push, taken_items-push}
 use Rattle.channel_core.proofs.ItemLemmas.{numbers_of-append}
 use Rattle.channel_core.proofs.LegalLemmas.{ack_cases, answered_cases, stream_cases}
 use Rattle.channel_core.proofs.NumberLemmas.{has_number-last, has_number-more, has_number-pushed}

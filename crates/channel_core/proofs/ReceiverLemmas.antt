@@ -1,7 +1,7 @@
 -- What a receiver has taken and owes of what the other end's user put in.
-use Rattle.std.proofs.Common.{◌≡◌, ℕ, ◌+◌, true, not, ◌||◌, List, [], ◌∷◌, ◌++◌, ◌⊎◌, ⊎_elim, ap, subst, ◌∙◌, eqb, length, ltb}
+use Rattle.std.proofs.Common.{◌≡◌, ℕ, ◌+◌, Bool, true, not, ◌||◌, Option, Some, None, List, [], ◌∷◌, ◌++◌, ◌⊎◌, ⊎_elim, ap, subst, ◌∙◌, eqb, length, ltb}
 use Rattle.std.specs.List.{All, cons_option, list_any}
-use Rattle.std.specs.Option.{IfSome}
+use Rattle.std.specs.Option.{IfSome, option_map}
 use Rattle.std.proofs.lemmas.Bool.{cond_both}
 use Rattle.std.proofs.lemmas.List.{append-nil}
 use Rattle.std.proofs.lemmas.List.Elements.{All-append, All-contains, All-drop, All-head, All-nil, All-push, All-weaker}
@@ -13,37 +13,52 @@ use Rattle.channel_core.specs.declared.call.EndCall.{EndCall}
 use Rattle.channel_core.specs.declared.message.Incoming.TheVariants as Incoming
 use Rattle.channel_core.specs.declared.message.Outgoing.{Outgoing}
 use Rattle.channel_core.specs.Call.{Entry}
-use Rattle.channel_core.specs.History.{acked_numbers, emissions, item_taken, lowest_unacked, message_emitted, owed_acks, owed_after, owed_with, put_items, taken_items}
+use Rattle.channel_core.specs.History.{TakenMessage, acked_numbers, emissions, lowest_unacked, message_emitted, message_taken, owed_acks, owed_after, owed_with, put_items, taken_items, taken_messages}
 use Rattle.channel_core.specs.Legal.{IsAnswered}
 use Rattle.channel_core.specs.Numbers.{has_number, numbers_of}
 use Rattle.channel_core.specs.World.{Event, IsHonest, IsLegalWorld, WasEmitted, history_of}
-use Rattle.channel_core.proofs.HistoryLemmas.{by_pushes, emissions-push, owed_acks-push, taken_items-push}
+use Rattle.channel_core.proofs.HistoryLemmas.{by_pushes, emissions-push, item_of, item_taken, owed_acks-push, taken_items-push, taken_messages-push}
 use Rattle.channel_core.proofs.ItemLemmas.{numbers_of-append}
-use Rattle.channel_core.proofs.LegalLemmas.{by_cases}
+use Rattle.channel_core.proofs.CaseLemmas.{by_cases}
 use Rattle.channel_core.proofs.NumberLemmas.{has_number-last, has_number-more}
 use Rattle.channel_core.proofs.SoundLemmas.{sound}
 use Rattle.channel_core.proofs.WorldLemmas.{IsHonest-pushed, IsLegalWorld-pushed, cases_side, history_of-away, history_of-here, history_of-there, other-other}
-use Rattle.channel_core.proofs.AgreementLemmas.{IsSentFrom, AcksTaken, IsPutAs, IsTaken, Agree, All-option, IsHeardOf, sender_after}
+use Rattle.channel_core.proofs.AgreementLemmas.{EndsAs, IsSentFrom, AcksTaken, IsPutAs, put_lasts, IsTaken, Agree, All-option, IsHeardOf, sender_after}
 
--- what is taken is the item that was put in
+-- a message is the one that was put in with its number, and the last where that is
+abbrev IsAsPut : List Item → List Bool → TakenMessage → Type 0
+IsAsPut items lasts m = IsPutAs items (item_of m) × EndsAs lasts m
+
+-- what is taken is what was put in
 taken_put : (w : ℕ) (r : List Entry) (call : EndCall) (answer : EndAnswer)
-    (sent : List Outgoing) (items : List Item) (bound : ℕ)
-    → All (IsSentFrom items bound) sent
+    (sent : List Outgoing) (items : List Item) (lasts : List Bool) (bound : ℕ)
+    → All (IsSentFrom items lasts bound) sent
     → IsHeardOf sent call answer
     → IsAnswered w r call answer
-    → IfSome (item_taken answer call) (IsPutAs items)
-taken_put w r call answer sent items bound all emitted answered =
+    → IfSome (message_taken answer call) (IsAsPut items lasts)
+taken_put w r call answer sent items lasts bound all emitted answered =
     by_cases w r
-    (λ call answer. IsHeardOf sent call answer → IfSome (item_taken answer call) (IsPutAs items))
+    (λ call answer. IsHeardOf sent call answer
+    → IfSome (message_taken answer call) (IsAsPut items lasts))
     (record {
       quiet = λ call answer quiet emitted. rw quiet.taken tt;
-      seq = λ item id now apart emitted. tt;
-      late = λ now n id item there emitted. tt;
-      released = λ now n id item absent near emitted.
-          let was : WasEmitted sent (EndCall.Heard now (Incoming.Stream n id item))
+      seq = λ item id now free emitted. tt;
+      seq_last = λ item id now free emitted. tt;
+      late = λ now n id item last there emitted. tt;
+      released = λ now n id item last new so emitted.
+          let was : WasEmitted sent (EndCall.Heard now (Incoming.Stream n id item last))
           = emitted (λ none. cc) in
-          let out = Outgoing.Stream (record { seq = n; id = id; date = was.0; item = item }) in
-          (All-contains (IsSentFrom items bound) sent out all was.1).0;
+          let out = Outgoing.Stream
+          (record { seq = n; id = id; date = was.0; item = item; last = last }) in
+          let is = All-contains (IsSentFrom items lasts bound) sent out all was.1 in
+          (is.0, is.1.1);
+      finished = λ now n id item last new so emitted.
+          let was : WasEmitted sent (EndCall.Heard now (Incoming.Stream n id item last))
+          = emitted (λ none. cc) in
+          let out = Outgoing.Stream
+          (record { seq = n; id = id; date = was.0; item = item; last = last }) in
+          let is = All-contains (IsSentFrom items lasts bound) sent out all was.1 in
+          (is.0, is.1.1);
       acked = λ now n out before emitted. tt;
       emit_ack = λ now p owed is emitted. tt;
       emit_stream = λ now n m below eligible is emitted. tt;
@@ -78,9 +93,14 @@ owed_taken w r call answer all answered =
     by_cases w r (OwedTaken w r)
     (record {
       quiet = λ call answer quiet. rw (quiet.taken, quiet.owed) same;
-      seq = λ item id now apart. same;
-      late = λ now n id item there. rw append-nil (owed_with-taken w taken owed n id there all);
-      released = λ now n id item absent near. rw numbers_of-append
+      seq = λ item id now free. same;
+      seq_last = λ item id now free. same;
+      late = λ now n id item last there. rw append-nil (owed_with-taken w taken owed n id there all);
+      released = λ now n id item last new so. rw numbers_of-append
+          (owed_with-taken w (taken ++ n ∷ []) owed n id (has_number-last taken n)
+          (All-weaker (IsTaken taken) (IsTaken (taken ++ n ∷ []))
+          (λ p there. has_number-more taken (n ∷ []) p.0 there) owed all));
+      finished = λ now n id item last new so. rw numbers_of-append
           (owed_with-taken w (taken ++ n ∷ []) owed n id (has_number-last taken n)
           (All-weaker (IsTaken taken) (IsTaken (taken ++ n ∷ []))
           (λ p there. has_number-more taken (n ∷ []) p.0 there) owed all));
@@ -99,9 +119,11 @@ ack_taken w r call answer all answered =
     by_cases w r (λ call answer. IfSome (message_emitted answer) (AcksTaken taken))
     (record {
       quiet = λ call answer quiet. rw quiet.emitted tt;
-      seq = λ item id now apart. tt;
-      late = λ now n id item there. tt;
-      released = λ now n id item absent near. tt;
+      seq = λ item id now free. tt;
+      seq_last = λ item id now free. tt;
+      late = λ now n id item last there. tt;
+      released = λ now n id item last new so. tt;
+      finished = λ now n id item last new so. tt;
       acked = λ now n out before. tt;
       emit_ack =
           λ now p rest is. All-head (IsTaken taken) p rest (subst (All (IsTaken taken)) is all);
@@ -127,14 +149,19 @@ receiver_after w s r e agree answered emitted =
     let numbers : numbers_of (taken_items (r ++ e ∷ [])) ≡ taken ++ numbers_of new
     = ap numbers_of (taken_items-push r e) ∙ numbers_of-append (taken_items r) new in
     let bound = lowest_unacked s + w in
-    let put = taken_put w r e.call e.answer (emissions s) (put_items s) bound
+    let put = taken_put w r e.call e.answer (emissions s) (put_items s) (put_lasts s) bound
     agree.sent emitted answered in
     let ack = ack_taken w r e.call e.answer agree.owed answered in
     record {
       sent = agree.sent;
       taken = rw taken_items-push
           (All-append Put (taken_items r) new agree.taken
-          (All-option Put (item_taken e.answer e.call) put));
+          (All-option Put (item_taken e.answer e.call) (items (message_taken e.answer e.call) put)));
+      ends = rw taken_messages-push
+          (All-append (EndsAs (put_lasts s)) (taken_messages r)
+          (cons_option (message_taken e.answer e.call) []) agree.ends
+          (All-option (EndsAs (put_lasts s)) (message_taken e.answer e.call)
+          (lasts (message_taken e.answer e.call) put)));
       owed = rw (taken_items-push r e, owed_acks-push w r e)
           (owed_taken w r e.call e.answer agree.owed answered);
       acks = rw (emissions-push, numbers)
@@ -146,17 +173,30 @@ receiver_after w s r e agree answered emitted =
       acked = λ n there. rw numbers
           (has_number-more taken (numbers_of new) n (agree.acked n there));
     }
+  where
+    items : (o : Option TakenMessage)
+        → IfSome o (IsAsPut (put_items s) (put_lasts s))
+        → IfSome (option_map item_of o) (IsPutAs (put_items s))
+    items None is = is
+    items (Some m) is = is.0
+
+    lasts : (o : Option TakenMessage)
+        → IfSome o (IsAsPut (put_items s) (put_lasts s))
+        → IfSome o (EndsAs (put_lasts s))
+    lasts None is = is
+    lasts (Some m) is = is.1
 
 -- the two ends of each world, either way
 abbrev pub BothAgree : ℕ → List Event → Type 0
 BothAgree w world = (side : Side) → Agree w (history_of side world) (history_of (other side) world)
 
 agree_nil : (w : ℕ) → BothAgree w []
-unfolding history_of acked_numbers emissions owed_acks taken_items
+unfolding history_of acked_numbers emissions owed_acks taken_items taken_messages
 agree_nil w side =
     record {
       sent = All-nil _;
       taken = All-nil _;
+      ends = All-nil _;
       owed = All-nil _;
       acks = All-nil _;
       acked = λ n there. cc;

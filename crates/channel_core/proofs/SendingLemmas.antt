@@ -15,7 +15,7 @@ use Rattle.channel_core.specs.Legal.{IsAnswered}
 use Rattle.channel_core.specs.Numbers.{has_number}
 use Rattle.channel_core.specs.Resending.{due_count, is_due, marked_after, marked_due, number_transmitted, sent_after, sent_since_opened, transmissions}
 use Rattle.channel_core.proofs.HistoryLemmas.{acked_numbers-push, emissions-push, marked_due-push, put_messages-push, sent_since_opened-push, transmissions-push}
-use Rattle.channel_core.proofs.LegalLemmas.{by_cases}
+use Rattle.channel_core.proofs.CaseLemmas.{by_cases}
 use Rattle.channel_core.proofs.NumberLemmas.{has_number-append, has_number-pushed}
 use Rattle.channel_core.proofs.PendingLemmas.{Sending}
 
@@ -87,12 +87,17 @@ emitted_after w h call answer emitted answered =
     → n < length (put_messages h ++ cons_option (message_put answer call) []))
     (record {
       quiet = λ call answer quiet. rw (quiet.emitted, quiet.put) same;
-      seq = λ item id now apart n out.
+      seq = λ item id now free n out.
           let longer = length_push (put_messages h)
-          (record { item = item; id = id; date = max now 1 }) in
+          (record { item = item; id = id; date = max now 1; last = false }) in
           let below = emitted n (rw append-nil at out) in omega arith;
-      late = λ now n id item there. same;
-      released = λ now n id item absent near. same;
+      seq_last = λ item id now free n out.
+          let longer = length_push (put_messages h)
+          (record { item = item; id = id; date = max now 1; last = true }) in
+          let below = emitted n (rw append-nil at out) in omega arith;
+      late = λ now n id item last there. same;
+      released = λ now n id item last new so. same;
+      finished = λ now n id item last new so. same;
       acked = λ now n out before. same;
       emit_ack = λ now p owed is. same;
       emit_stream = λ now n m below eligible is k out.
@@ -118,9 +123,11 @@ acked_after w h call answer acked answered =
     (emitted_numbers h) n ≡ true)
     (record {
       quiet = λ call answer quiet. rw quiet.acked same;
-      seq = λ item id now apart. same;
-      late = λ now n id item there. same;
-      released = λ now n id item absent near. same;
+      seq = λ item id now free. same;
+      seq_last = λ item id now free. same;
+      late = λ now n id item last there. same;
+      released = λ now n id item last new so. same;
+      finished = λ now n id item last new so. same;
       acked = λ now n out before k there.
           ⊎_elim
           (λ (old : has_number (acked_numbers h) k ≡ true). acked k old)

@@ -21,7 +21,7 @@ use Rattle.channel_core.specs.Resending.{is_eligible, marked_after, marked_due, 
 use Rattle.channel_core.specs.World.{Event, IsLegalWorld, entry_at, history_of}
 use Rattle.channel_core.proofs.ExchangeLemmas.{openings, openings_parts}
 use Rattle.channel_core.proofs.HistoryLemmas.{acked_numbers-push, marked_due-push, owed_acks-push, put_messages-push, sent_since_opened-push}
-use Rattle.channel_core.proofs.LegalLemmas.{by_cases}
+use Rattle.channel_core.proofs.CaseLemmas.{by_cases}
 use Rattle.channel_core.proofs.NumberLemmas.{has_number-kept, has_number-last, has_number-other, has_number-without, least_absent-is}
 use Rattle.channel_core.proofs.SoundLemmas.{IsConsistent, sound}
 use Rattle.channel_core.proofs.WorldLemmas.{append_two, IsLegalWorld-front, IsLegalWorld-pushed, cases_side, entry_at-other, entry_at-same, history_of-here, history_of-there, other-other}
@@ -88,9 +88,11 @@ falls w h out call answer answered =
           let emitted : message_emitted answer ≡ Some out = rw is refl in
           let none = quiet.emitted in
           cc;
-      seq = λ item id now apart is. cc;
-      late = λ now n id item there is. cc;
-      released = λ now n id item absent near is. cc;
+      seq = λ item id now free is. cc;
+      seq_last = λ item id now free is. cc;
+      late = λ now n id item last there is. cc;
+      released = λ now n id item last new so is. cc;
+      finished = λ now n id item last new so is. cc;
       acked = λ now n emitted before is. cc;
       emit_ack = λ now p owed first is.
           rw (append-nil (put_messages h), append-nil (acked_numbers h))

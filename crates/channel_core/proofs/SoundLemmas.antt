@@ -1,7 +1,7 @@
 -- What holds of one end in each legal history.
 use Rattle.std.proofs.Common.{◌≡◌, ◌≢◌, ℕ, ◌+◌, ◌-◌, ◌<◌, ◌≤◌, true, false, not, ◌||◌, Option, Some, None, List, [], ◌∷◌, ◌++◌, ⊎_elim, refl, ap, ◌∙◌, arith, eqb, length, length-append, ltb, max}
 use Rattle.std.specs.List.{All, AllPairs, cons_option, list_any}
-use Rattle.std.specs.Option.{IfSome}
+use Rattle.std.specs.Option.{IfSome, option_map}
 use Rattle.std.proofs.lemmas.Bool.{cases_Bool, ltb-true, not-false, or_parts}
 use Rattle.std.proofs.lemmas.List.{append-nil, length-drop, length_push}
 use Rattle.std.proofs.lemmas.List.Elements.{All-append, All-cons, All-nil, All-weaker}
@@ -11,12 +11,13 @@ use Rattle.receive_window.specs.Window.{items_in_order}
 use Rattle.channel_core.specs.declared.call.EndAnswer.{EndAnswer}
 use Rattle.channel_core.specs.declared.call.EndCall.{EndCall}
 use Rattle.channel_core.specs.Call.{Entry}
-use Rattle.channel_core.specs.History.{PutMessage, acked_numbers, item_taken, items_released, lowest_unacked, message_put, next_in_order, number_acked, owed_acks, owed_after, owed_with, put_messages, released_items, taken_items}
+use Rattle.channel_core.specs.History.{PutMessage, TakenMessage, acked_numbers, items_released, lowest_unacked, message_put, message_taken, next_in_order, number_acked, owed_acks, owed_after, owed_with, put_messages, released_items, taken_items}
 use Rattle.channel_core.specs.Legal.{IsAnswered, IsLegal, items_released_by}
-use Rattle.channel_core.specs.Numbers.{has_number, least_absent, numbers_of}
-use Rattle.channel_core.proofs.HistoryLemmas.{acked_numbers-push, by_pushes, owed_acks-push, put_messages-push, released_items-push, taken_items-push}
+use Rattle.channel_core.specs.Numbers.{least_absent, numbers_of}
+use Rattle.channel_core.proofs.HistoryLemmas.{acked_numbers-push, by_pushes, item_of, item_taken, owed_acks-push, put_messages-push, released_items-push, taken_items-push}
 use Rattle.channel_core.proofs.ItemLemmas.{items_in_order-join, least_absent-grows_items, numbers_apart}
-use Rattle.channel_core.proofs.LegalLemmas.{IsLegal-pushed, by_cases}
+use Rattle.channel_core.proofs.CaseLemmas.{by_cases}
+use Rattle.channel_core.proofs.LegalLemmas.{IsLegal-pushed, IsNew}
 use Rattle.channel_core.proofs.NumberLemmas.{least_absent-grows}
 
 -- what is read off a legal history
@@ -41,31 +42,33 @@ room_after w h call answer room answered =
     by_cases w h (Room w h)
     (record {
       quiet = λ call answer quiet. rw quiet.put same;
-      seq = λ item id now apart.
-          let m : PutMessage = record { item = item; id = id; date = max now 1 } in
+      seq = λ item id now free.
+          let m : PutMessage = record { item = item; id = id; date = max now 1; last = false } in
           omega (arith, length-append (put_messages h) (m ∷ []));
-      late = λ now n id item there. same;
-      released = λ now n id item absent near. same;
+      seq_last = λ item id now free.
+          let m : PutMessage = record { item = item; id = id; date = max now 1; last = true } in
+          omega (arith, length-append (put_messages h) (m ∷ []));
+      late = λ now n id item last there. same;
+      released = λ now n id item last new so. same;
+      finished = λ now n id item last new so. same;
       acked = λ now n out before. same;
       emit_ack = λ now p owed is. same;
       emit_stream = λ now n m below eligible is. same;
     }) call answer answered
 
 -- a message that is taken is near, and its number is new
-abbrev IsNew : ℕ → List Entry → ℕ × Item → Type 0
-IsNew w h p =
-    (p.0 < next_in_order h + w) × (has_number (numbers_of (taken_items h)) p.0 ≡ false)
-
 new_taken : (w : ℕ) (h : List Entry) (call : EndCall) (answer : EndAnswer)
     → IsAnswered w h call answer
-    → IfSome (item_taken answer call) (IsNew w h)
+    → IfSome (message_taken answer call) (λ m. IsNew w h m.seq)
 new_taken w h call answer answered =
-    by_cases w h (λ call answer. IfSome (item_taken answer call) (IsNew w h))
+    by_cases w h (λ call answer. IfSome (message_taken answer call) (λ m. IsNew w h m.seq))
     (record {
       quiet = λ call answer quiet. rw quiet.taken tt;
-      seq = λ item id now apart. tt;
-      late = λ now n id item there. tt;
-      released = λ now n id item absent near. (near, absent);
+      seq = λ item id now free. tt;
+      seq_last = λ item id now free. tt;
+      late = λ now n id item last there. tt;
+      released = λ now n id item last new so. new;
+      finished = λ now n id item last new so. new;
       acked = λ now n out before. tt;
       emit_ack = λ now p owed is. tt;
       emit_stream = λ now n m below eligible is. tt;
@@ -96,9 +99,11 @@ few_after w h call answer owed few answered =
     by_cases w h (λ call answer. length (owed_after w owed answer call) ≤ w)
     (record {
       quiet = λ call answer quiet. rw quiet.owed few;
-      seq = λ item id now apart. few;
-      late = λ now n id item there. owed_with-few w owed n id few;
-      released = λ now n id item absent near. owed_with-few w owed n id few;
+      seq = λ item id now free. few;
+      seq_last = λ item id now free. few;
+      late = λ now n id item last there. owed_with-few w owed n id few;
+      released = λ now n id item last new so. owed_with-few w owed n id few;
+      finished = λ now n id item last new so. owed_with-few w owed n id few;
       acked = λ now n out before. few;
       emit_ack = λ now p owed is. rw length-drop (omega arith);
       emit_stream = λ now n m below eligible is. few;
@@ -122,9 +127,13 @@ in_order_after w h call answer in_order answered =
     by_cases w h (InOrder h)
     (record {
       quiet = λ call answer quiet. rw (quiet.taken, quiet.released) same;
-      seq = λ item id now apart. same;
-      late = λ now n id item there. same;
-      released = λ now n id item absent near.
+      seq = λ item id now free. same;
+      seq_last = λ item id now free. same;
+      late = λ now n id item last there. same;
+      released = λ now n id item last new so.
+          ap (λ (l : List Item). l ++ items_released_by (taken_items h) n item) in_order
+          ∙ items_in_order-join (taken_items h) n item;
+      finished = λ now n id item last new so.
           ap (λ (l : List Item). l ++ items_released_by (taken_items h) n item) in_order
           ∙ items_in_order-join (taken_items h) n item;
       acked = λ now n out before. same;
@@ -155,30 +164,30 @@ sound_after w h e sound answered =
           (taken_items h ++ new)
           (All-append
           (λ (p : ℕ × Item). p.0 < next_in_order h + w)
-          (taken_items h) new sound.near (near (item_taken e.answer e.call) is_new)));
-      once = rw taken_items-push (once (item_taken e.answer e.call) is_new);
+          (taken_items h) new sound.near (near (message_taken e.answer e.call) is_new)));
+      once = rw taken_items-push (once (message_taken e.answer e.call) is_new);
       few_owed = rw owed_acks-push
           (few_after w h e.call e.answer (owed_acks w h) sound.few_owed answered);
       in_order = rw (released_items-push, taken_items-push)
           (in_order_after w h e.call e.answer sound.in_order answered);
     }
   where
-    near : (o : Option (ℕ × Item))
-        → IfSome o (IsNew w h)
-        → All (λ p. p.0 < next_in_order h + w) (cons_option o [])
+    near : (o : Option TakenMessage)
+        → IfSome o (λ m. IsNew w h m.seq)
+        → All (λ p. p.0 < next_in_order h + w) (cons_option (option_map item_of o) [])
     near None is_new = All-nil (λ (p : ℕ × Item). p.0 < next_in_order h + w)
-    near (Some p) is_new =
+    near (Some m) is_new =
         let Near : ℕ × Item → Type 0 = λ p. p.0 < next_in_order h + w in
-        All-cons Near p [] is_new.0 (All-nil Near)
+        All-cons Near (item_of m) [] is_new.near (All-nil Near)
 
-    once : (o : Option (ℕ × Item))
-        → IfSome o (IsNew w h)
-        → AllPairs (λ p q. p.0 ≢ q.0) (taken_items h ++ cons_option o [])
+    once : (o : Option TakenMessage)
+        → IfSome o (λ m. IsNew w h m.seq)
+        → AllPairs (λ p q. p.0 ≢ q.0) (taken_items h ++ cons_option (option_map item_of o) [])
     once None is_new = rw append-nil sound.once
-    once (Some p) is_new =
+    once (Some m) is_new =
         all_pairs_push
         (λ (p q : ℕ × Item). p.0 ≢ q.0)
-        (taken_items h) p sound.once (numbers_apart (taken_items h) p.0 is_new.1)
+        (taken_items h) (item_of m) sound.once (numbers_apart (taken_items h) m.seq is_new.absent)
 
 sound_nil : (w : ℕ) → IsConsistent w []
 unfolding put_messages acked_numbers taken_items released_items owed_acks least_absent

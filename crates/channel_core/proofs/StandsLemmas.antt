@@ -11,13 +11,13 @@ use Rattle.receive_window.specs.Window.{WindowState, empty_window}
 use Rattle.channel_core.specs.declared.call.EndAnswer.{EndAnswer}
 use Rattle.channel_core.specs.declared.call.EndCall.{EndCall}
 use Rattle.channel_core.specs.Call.{Entry, with_earlier}
-use Rattle.channel_core.specs.History.{PutMessage, acked_numbers, closes, is_closed, is_paused, is_up, item_taken, lowest_unacked, number_acked, owed_acks, owed_after, paused_after, put_messages, taken_items, up_after}
+use Rattle.channel_core.specs.History.{PutMessage, acked_numbers, closes, is_closed, is_paused, is_up, lowest_unacked, number_acked, owed_acks, owed_after, paused_after, put_messages, taken_items, up_after}
 use Rattle.channel_core.specs.Legal.{IsAnswered, IsLegal}
 use Rattle.channel_core.specs.Numbers.{least_absent, numbers_of}
 use Rattle.channel_core.specs.Resending.{due_count, is_due, round_trip_samples, sample_of}
 use Rattle.channel_core.specs.Stands.{EndState, Stands, queue_after}
 use Rattle.channel_core.proofs.EarlyLemmas.{early_of}
-use Rattle.channel_core.proofs.HistoryLemmas.{acked_numbers-push, is_closed-push, is_paused-push, is_up-push, owed_acks-push, round_trip_samples-push, taken_items-push}
+use Rattle.channel_core.proofs.HistoryLemmas.{acked_numbers-push, is_closed-push, is_paused-push, is_up-push, item_taken, owed_acks-push, round_trip_samples-push, taken_items-push}
 use Rattle.channel_core.proofs.LegalLemmas.{IsLegal-push}
 use Rattle.channel_core.proofs.PendingLemmas.{Sending, kept_all, kept_all-unacked}
 use Rattle.channel_core.proofs.SendingLemmas.{due_count-push, sending, sending-push, sending_after}
