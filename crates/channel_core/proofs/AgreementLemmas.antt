@@ -143,8 +143,8 @@ sent_more : (items more : List Item) (lasts others : List Bool) (bound higher : 
     → IsSentFrom (items ++ more) (lasts ++ others) higher out
 sent_more items more lasts others bound higher (Outgoing.Stream m) grows is = (
   slice_get-more items more m.seq m.item is.0,
-  let below = is.1.0 in omega arith,
-  slice_get-more lasts others m.seq m.last is.1.1,
+  let below = is.1 in omega arith,
+  slice_get-more lasts others m.seq m.last is.2,
 )
 sent_more items more lasts others bound higher (Outgoing.Ack n id date) grows is = tt
 

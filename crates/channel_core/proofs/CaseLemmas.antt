@@ -1,5 +1,5 @@
 -- The cases of a call with its answer: those that change what is read off a history, and all others.
-use Rattle.std.proofs.Common.{◌≡◌, ◌≢◌, ℕ, ◌-◌, ◌<◌, max, Bool, true, false, Some, None, List, [], ◌∷◌, length, rules, slice_get}
+use Rattle.std.proofs.Common.{◌≡◌, ℕ, ◌<◌, max, Bool, true, false, Some, None, List, [], ◌∷◌, length, rules, slice_get}
 use Rattle.std.proofs.lemmas.Bool.{cond_both}
 use Rattle.chan_values.specs.declared.item.Item.{Item}
 use Rattle.channel_core.specs.declared.call.EndAnswer.{EndAnswer}
@@ -10,7 +10,7 @@ use Rattle.channel_core.specs.declared.message.Outgoing.{Outgoing}
 use Rattle.channel_core.specs.declared.answer.Pull.{Pull}
 use Rattle.channel_core.specs.declared.answer.Put.{Put}
 use Rattle.channel_core.specs.Call.{Entry}
-use Rattle.channel_core.specs.History.{PutMessage, acked_numbers, emitted_numbers, has_ended, is_closed, items_released, lowest_unacked, message_emitted, message_put, message_taken, number_acked, owed_acks, owed_after, put_messages, taken_items}
+use Rattle.channel_core.specs.History.{PutMessage, acked_numbers, emitted_numbers, is_closed, items_released, message_emitted, message_put, message_taken, number_acked, owed_acks, owed_after, put_messages, taken_items}
 use Rattle.channel_core.specs.Legal.{IsAnswered, answer_to_heard, answer_to_incoming, answer_to_pull, answer_to_put, answer_to_tick, emit_message, items_released_by}
 use Rattle.channel_core.specs.Numbers.{has_number, numbers_of}
 use Rattle.channel_core.specs.Resending.{is_eligible}

@@ -81,7 +81,7 @@ not_beyond w now s r incoming agree emitted =
         let low = lowest_unacked-le w s r agree in
         stream_cases w r n item last (λ heard. heard ≢ Heard.Beyond)
         (λ there is. cc)
-        (λ far is. omega (arith, sent.1.0))
+        (λ far is. omega (arith, sent.1))
         (λ m new past is. cc)
         (λ new so is. cc)
         (λ new so is. cc)

@@ -1,24 +1,22 @@
 -- What a legal history emits can be encoded, where each call was one that may be made.
-use Rattle.std.proofs.Common.{◌≡◌, ◌≢◌, ℕ, ◌+◌, ◌-◌, ◌^◌, ◌<◌, ◌≤◌, max, cond, List, [], ◌∷◌, ◌++◌, ⊎_elim, subst, arith, eqb, length}
+use Rattle.std.proofs.Common.{ℕ, ◌+◌, ◌-◌, ◌^◌, ◌<◌, ◌≤◌, max, List, [], ◌∷◌, ◌++◌, subst, arith, length, true, false}
 use Rattle.std.specs.List.{All, cons_option}
-use Rattle.std.proofs.lemmas.Bool.{cond_both, eqb-false}
+use Rattle.std.proofs.lemmas.Bool.{cond_both}
 use Rattle.std.proofs.lemmas.List.{append-nil, length_push}
 use Rattle.std.proofs.lemmas.List.Elements.{All-drop, All-head, All-nil, All-push}
 use Rattle.std.proofs.lemmas.Option.{get_or_from_slice_get}
-use Rattle.chan_values.specs.declared.item.Item.{Item}
 use Rattle.chan_values.specs.Limits.{max_payload}
 use Rattle.channel_core.specs.declared.call.EndAnswer.{EndAnswer}
 use Rattle.channel_core.specs.declared.call.EndCall.{EndCall}
 use Rattle.channel_core.specs.declared.message.Outgoing.{Outgoing}
-use Rattle.channel_core.specs.declared.answer.Put.{Put}
 use Rattle.channel_core.specs.Call.{Entry}
 use Rattle.channel_core.specs.Condition.{CanBeEncoded, IsCallable}
-use Rattle.channel_core.specs.History.{PutMessage, emissions, is_closed, lowest_unacked, message_emitted, message_put, owed_acks, owed_after, owed_with, put_messages}
+use Rattle.channel_core.specs.History.{PutMessage, emissions, message_emitted, message_put, owed_acks, owed_after, owed_with, put_messages}
 use Rattle.channel_core.specs.Laws.{EmissionsCanBeEncoded}
-use Rattle.channel_core.specs.Legal.{IsAnswered, IsLegal, answer_to_put}
+use Rattle.channel_core.specs.Legal.{IsAnswered, IsLegal}
 use Rattle.channel_core.proofs.HistoryLemmas.{by_pushes, emissions-push, owed_acks-push, put_messages-push}
 use Rattle.channel_core.proofs.CaseLemmas.{by_cases}
-use Rattle.channel_core.proofs.LegalLemmas.{All-pushed, IsLegal-pushed, answered_cases}
+use Rattle.channel_core.proofs.LegalLemmas.{All-pushed, IsLegal-pushed}
 use Rattle.chan_values.specs.Limits.{max_seq}
 
 -- the message has a date, and its payload fits

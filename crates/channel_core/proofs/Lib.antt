@@ -8,6 +8,7 @@ pub mod CountLemmas
 pub mod DeliveryLemmas
 pub mod EarlyLemmas
 pub mod EncodableLemmas
+pub mod EndLemmas
 pub mod ExchangeLemmas
 pub mod HeardLemmas
 pub mod HistoryLemmas

@@ -14,14 +14,14 @@ cases_option None = inl refl
 cases_option (Some x) = inr (x, refl)
 
 -- where a choice is a value, one of the two is
-or_else-some : {X : Type 0} (o p : Option X) (x : X)
+pub or_else-some : {X : Type 0} (o p : Option X) (x : X)
     → or_else o p ≡ Some x
     → (o ≡ Some x) ⊎ ((o ≡ None) × (p ≡ Some x))
 or_else-some (Some y) p x is = inl is
 or_else-some None p x is = inr (refl, is)
 
 -- where a choice is none, both are
-or_else-none : {X : Type 0} (o p : Option X) → or_else o p ≡ None → (o ≡ None) × (p ≡ None)
+pub or_else-none : {X : Type 0} (o p : Option X) → or_else o p ≡ None → (o ≡ None) × (p ≡ None)
 or_else-none (Some x) p is = cc
 or_else-none None p is = (refl, is)
 
@@ -89,7 +89,7 @@ least_below-is test bound n below passes least =
         absurd (both_ways (test m) (least m more) passes_m)
 
 -- a number in a list is at most its sum
-has_number-le_sum : (numbers : List ℕ) (n : ℕ) → has_number numbers n ≡ true → n ≤ sum numbers
+pub has_number-le_sum : (numbers : List ℕ) (n : ℕ) → has_number numbers n ≡ true → n ≤ sum numbers
 has_number-le_sum [] n there = cc
 has_number-le_sum (k ∷ numbers) n there =
     let total = sum_by-cons (λ (m : ℕ). m) k numbers in

@@ -51,14 +51,14 @@ taken_put w r call answer sent items lasts bound all emitted answered =
           let out = Outgoing.Stream
           (record { seq = n; id = id; date = was.0; item = item; last = last }) in
           let is = All-contains (IsSentFrom items lasts bound) sent out all was.1 in
-          (is.0, is.1.1);
+          (is.0, is.2);
       finished = λ now n id item last new so emitted.
           let was : WasEmitted sent (EndCall.Heard now (Incoming.Stream n id item last))
           = emitted (λ none. cc) in
           let out = Outgoing.Stream
           (record { seq = n; id = id; date = was.0; item = item; last = last }) in
           let is = All-contains (IsSentFrom items lasts bound) sent out all was.1 in
-          (is.0, is.1.1);
+          (is.0, is.2);
       acked = λ now n out before emitted. tt;
       emit_ack = λ now p owed is emitted. tt;
       emit_stream = λ now n m below eligible is emitted. tt;
