@@ -1,9 +1,8 @@
 -- A message past the end of its direction.
-use Rattle.std.proofs.Common.{◌≡◌, ℕ, ◌+◌, ◌<◌, ◌≤◌, Bool, true, false, cond, ◌||◌, Option, Some, None, Bor, List, refl, sym, ap, ◌∙◌, arith, ltb}
-use Rattle.std.specs.Bool.{IsTrue, MatchBool}
+use Rattle.std.proofs.Common.{◌≡◌, ℕ, ◌+◌, ◌<◌, ◌≤◌, Bool, false, None, refl, sym, ◌∙◌, arith}
+use Rattle.std.specs.Bool.{MatchBool}
 use Rattle.std.specs.Option.{IsSome, is_some}
-use Rattle.std.proofs.lemmas.Bool.{both_ways, cases_lt, le-ltb}
-use Rattle.chan_values.specs.declared.item.Item.{Item}
+use Rattle.std.proofs.lemmas.Bool.{le-ltb}
 use Rattle.receive_window.specs.Window.{IsPastEnd, WindowState, is_below, is_taken, item_with}
 use Rattle.receive_window.proofs.ItemLemmas.{not_some}
 

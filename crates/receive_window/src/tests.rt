@@ -1,43 +1,89 @@
 use crate::{Take, Window};
-use chan_values::{Bytes, Item};
+use chan_values::{Bytes, Item, Items};
 use std::alloc::Global;
 use std::test::Fail;
 
-/// An item of one byte.
-fn item(alloc: Global, byte: u8) -> Result<Item, Fail> {
-    Ok(Item {
-        ptype: 1,
-        payload: Bytes::new(vec![in alloc; byte]?),
-    })
+/// An answer, with the bytes of the items.
+#[derive(Clone, Copy)]
+enum Wanted {
+    Released(&'static [u8]),
+    Finished(&'static [u8]),
+    Late,
+    Beyond,
+    PastEnd(u64),
 }
+
+/// A message of one byte and what it gets: number, byte, whether it is the last, answer.
+type Row = (u32, u8, bool, Wanted);
 
 #[test]
 fn an_early_item_waits_for_the_one_before_it(rt: HostRuntime) -> Result<(), Fail> {
     let alloc = rt.alloc();
     let mut window = Window::new(alloc, 3).expect(&rt, "there is memory");
-    let fourth = window.take(3, item(alloc, b'd')?, false);
-    assert!(rt; matches!(fourth, Take::Beyond), "three is outside");
-    let third = window.take(2, item(alloc, b'c')?, false);
-    assert!(rt; releases(&third, b""), "it is early");
-    let again = window.take(2, item(alloc, b'x')?, false);
-    assert!(rt; matches!(again, Take::Late), "it was taken");
-    let second = window.take(1, item(alloc, b'b')?, false);
-    assert!(rt; releases(&second, b""), "it is early too");
-    assert!(rt; window.held() == 2, "both wait");
-    let first = window.take(0, item(alloc, b'a')?, false);
-    assert!(rt; releases(&first, b"abc"), "all are in order");
+    let early: [Row; 4] = [
+        (3, b'd', false, Wanted::Beyond),
+        (2, b'c', false, Wanted::Released(b"")),
+        (2, b'x', false, Wanted::Late),
+        (1, b'b', false, Wanted::Released(b"")),
+    ];
+    assert!(rt; answers(alloc, &mut window, &early)?, "none is in order");
+    assert!(rt; window.held() == 2, "two wait");
+    let next: [Row; 2] = [
+        (0, b'a', false, Wanted::Released(b"abc")),
+        (3, b'd', false, Wanted::Released(b"d")),
+    ];
+    assert!(rt; answers(alloc, &mut window, &next)?, "all are in order");
     assert!(rt; window.held() == 0, "none waits");
-    let next = window.take(3, item(alloc, b'd')?, false);
-    assert!(rt; releases(&next, b"d"), "three is next");
-    assert!(rt; window.expected() == 4, "then four");
+    assert!(rt; window.expected() == 4, "four is next");
     Ok(())
 }
 
-/// Whether these items of one byte each are released, in this order.
-fn releases(take: &Take, bytes: &[u8]) -> bool {
-    let Take::Released(items) = take else {
-        return false;
-    };
+#[test]
+fn nothing_is_taken_after_the_last_message(rt: HostRuntime) -> Result<(), Fail> {
+    let alloc = rt.alloc();
+    let mut window = Window::new(alloc, 3).expect(&rt, "there is memory");
+    let rows: [Row; 5] = [
+        (1, b'b', true, Wanted::Released(b"")),
+        (2, b'c', false, Wanted::PastEnd(1)),
+        (0, b'a', true, Wanted::PastEnd(1)),
+        (0, b'a', false, Wanted::Finished(b"ab")),
+        (1, b'b', true, Wanted::Late),
+    ];
+    assert!(rt;
+        answers(alloc, &mut window, &rows)?,
+        "the second is the last"
+    );
+    Ok(())
+}
+
+/// Whether these messages are answered so, one after the other.
+fn answers(alloc: Global, window: &mut Window, rows: &[Row]) -> Result<bool, Fail> {
+    for (seq, byte, last, wanted) in rows {
+        let item = Item {
+            ptype: 1,
+            payload: Bytes::new(vec![in alloc; *byte]?),
+        };
+        let take = window.take(u64::from(*seq), item, *last);
+        if !is_wanted(&take, *wanted) {
+            return Ok(false);
+        }
+    }
+    Ok(true)
+}
+
+/// Whether an answer is this one.
+fn is_wanted(take: &Take, wanted: Wanted) -> bool {
+    match (take, wanted) {
+        (Take::Released(items), Wanted::Released(bytes)) => are_of(items, bytes),
+        (Take::Finished(items), Wanted::Finished(bytes)) => are_of(items, bytes),
+        (Take::PastEnd(end), Wanted::PastEnd(wanted)) => *end == wanted,
+        (Take::Late, Wanted::Late) | (Take::Beyond, Wanted::Beyond) => true,
+        _ => false,
+    }
+}
+
+/// Whether these are items of one byte each, in this order.
+fn are_of(items: &Items, bytes: &[u8]) -> bool {
     items.as_slice().len() == bytes.len()
         && items.as_slice().iter().zip(bytes).all(|(item, byte)| item.payload.as_slice()
             == [*byte].as_slice())

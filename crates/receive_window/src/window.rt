@@ -1,6 +1,6 @@
 //! The receive window: stream messages come in any order and leave by number, each once.
 
-ghost use Rattle.std.specs.Prelude.{◌≡◌, ◌↔◌, ℕ, ◌+◌, ◌-◌, ◌^◌, ◌<◌, ◌≤◌, ◌∷◌, IfOk, IsTrue, length};
+ghost use Rattle.std.specs.Prelude.{◌≡◌, ◌↔◌, ℕ, ◌+◌, ◌-◌, ◌^◌, ◌<◌, ◌≤◌, ◌∷◌, if◌then◌else◌, IfOk, IsTrue, length};
 ghost use Rattle.chan_values.specs.Limits.{max_window};
 ghost use Rattle.receive_window.specs.Window.{AreDifferent, IfRefused, IfTaken, IsNew, IsPastEnd, Releases, empty_window, is_below, is_last_among, is_taken, last_with};
 
@@ -53,8 +53,8 @@ impl Window {
         })
     }
 
-    /// Takes a stream message, where it is new, inside the window and not past the end of its direction.
-    /// It takes memory for the list of what it releases, and no other.
+    /// Takes a stream message, where it is new, inside the window and not past the end of its
+    /// direction. It takes memory for the list of what it releases, and no other.
     #[tactic(auto, using(crate::proofs::ItemLemmas::numbers_differ))]
     pub fn take(&mut self, seq: u64, item: Item, last: bool) -> Take
         requires { seq < 2 ^ 63 }
@@ -79,7 +79,7 @@ impl Window {
         if let Some(end) = self.end_passed(seq, last) {
             return Take::PastEnd(end);
         }
-        let end = if last { Some(seq) } else { self.last };
+        let end = last_with(self.last, seq, last);
         if ahead > 0 {
             let _none = self.early.set(seq, item);
             self.last = end;
@@ -92,11 +92,7 @@ impl Window {
         items.push_reserved(item);
         release(&mut self.early, next, &mut items);
         self.last = end;
-        if is_last_among(end, expected, next) {
-            Take::Finished(Items::new(items))
-        } else {
-            Take::Released(Items::new(items))
-        }
+        in_order(Items::new(items), is_last_among(end, expected, next))
     }
 
     /// The number that shows that a new message comes after the end of its direction, or is not the
@@ -132,6 +128,24 @@ impl Window {
     {
         self.early.len() as u64
     }
+}
+
+/// The answer for items that are in order now.
+fn in_order(items: Items, finished: bool) -> Take
+    ensures { result ≡ (if finished then Take.Finished items else Take.Released items) }
+{
+    if finished {
+        Take::Finished(items)
+    } else {
+        Take::Released(items)
+    }
+}
+
+/// The number of the last message, where one more is taken.
+fn last_with(before: Option<u64>, seq: u64, last: bool) -> Option<u64>
+    ensures { result ≡ last_with before seq last }
+{
+    if last { Some(seq) } else { before }
 }
 
 /// Whether the last message, if it was taken, stands below a number.

@@ -6,9 +6,9 @@ use Rattle.std.specs.Option.{IsSome}
 use Rattle.chan_values.specs.declared.item.Item.{Item}
 use Rattle.slot_ring.specs.Ring.{Ring}
 use Rattle.receive_window.specs.Inside.{from_number}
-use Rattle.receive_window.specs.Window.{WindowState, item_with, items_in_order}
+use Rattle.receive_window.specs.Window.{WindowState, is_last_among, item_with, items_in_order, last_with}
 use Rattle.receive_window.proofs.ItemLemmas.{above_next, absent, copied-some, eqb-turned, item_with-before, item_with-from, next_small, numbers-found, numbers_differ}
-use Rattle.receive_window.proofs.ReleaseLemmas.{Releases-early, Releases-next_at, late-not_beyond}
+use Rattle.receive_window.proofs.ReleaseLemmas.{Releases-early, Releases-next_at, in_order-taken, late-not_beyond}
 use Rattle.receive_window.proofs.window.Window.take.Goals as goal
 use Rattle.receive_window.proofs.window.Window.take.Goals.{then-seq-expected-via-then-seq-expected, then-seq-expected-via-else-seq-expected+then-is_some}
 
@@ -64,15 +64,15 @@ invariant_of-self c =
       room = ap (λ (r : Ring Item). r.capacity) state ∙ sound.room;
     }
 
-pub returns-then-ahead-gt0-clause-released : goal.returns-then-ahead-gt0-clause-released
-returns-then-ahead-gt0-clause-released c =
+pub returns-then-ahead-gt0-clause-taken : goal.returns-then-ahead-gt0-clause-taken
+returns-then-ahead-gt0-clause-taken c =
     let inside = c.self.inside in
     let early = inside.early in
     let base = ap (λ (r : Ring Item). r.base) c.set-none.ensures.state in
     let above = above_next early c.base-expected.ensures.sound c.self.invariant.missing in
-    rw (← c.self.view_is, c.none.ensures, base)
+    rw (← c.self.view_is, c.none.ensures, base, c.last_with-end.ensures)
     (Releases-early inside.window early.base c.args.seq c.args.item early.held
-    c.set-none.new.self.held
+    c.set-none.new.self.held inside.last (last_with inside.last c.args.seq c.args.last)
     (let ahead = c.if-ahead-gt0.true in let at = c.base-expected.ensures.value in omega arith)
     (λ k some. numbers-found (λ n. early.base < n) early.held k above some)
     (λ k. c.set-none.ensures.found k ∙ rw (eqb-turned c.args.seq k) refl)
@@ -99,8 +99,8 @@ invariant_of-self-2 c =
       room = sound.room;
     })
 
-pub returns-clause-released : goal.returns-clause-released
-returns-clause-released c =
+pub returns-clause-taken : goal.returns-clause-taken
+returns-clause-taken c =
     let inside = c.self.inside in
     let early = inside.early in
     let next = c.next_free-next.result in
@@ -116,9 +116,20 @@ returns-clause-released c =
     (c.push_reserved.ensures.items
     ∙ ap (λ (l : List Item). l ++ c.args.item ∷ []) c.in-Ok.ensures.items)
     ∙ ap (λ (n : ℕ). c.args.item ∷ items_in_order early.held (n + 1) next) (sym here) in
-    rw (← c.self.view_is, c.new.ensures, c.release.ensures.rest)
+    let end = last_with inside.last c.args.seq c.args.last in
+    rw (
+      ← c.self.view_is,
+      c.in_order.ensures,
+      c.new.ensures,
+      c.is_last_among.ensures,
+      c.last_with-end.ensures,
+      at,
+      c.release.ensures.rest,
+    )
+    (in_order-taken (is_last_among end early.base next) c.release.new.items.items _
     (Releases-next_at inside.window early.base c.args.seq next c.args.item
-    c.release.new.items.items early.held (from_number next early.held) here
+    c.release.new.items.items early.held (from_number next early.held) inside.last
+    end here
     (λ k some. numbers-found (λ n. early.base < n) early.held k above some) low list
     c.next_free-next.ensures.passed c.next_free-next.ensures.free
     (λ k beyond. ⊎_elim
@@ -131,7 +142,7 @@ returns-clause-released c =
     (λ k from below. item_with-before next k early.held below)
     (numbers_differ (from_number next early.held)
     (AllPairs-filter (λ (e f : ℕ × Item). e.0 < f.0) (λ (e : ℕ × Item). leb next e.0) early.held
-    c.base-expected.ensures.sound.ascending)))
+    c.base-expected.ensures.sound.ascending))))
 
 pub returns-clause-different : goal.returns-clause-different
 returns-clause-different c =
