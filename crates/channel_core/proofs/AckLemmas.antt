@@ -13,7 +13,7 @@ use Rattle.channel_core.specs.declared.call.EndCall.{EndCall}
 use Rattle.channel_core.specs.declared.answer.Heard.{Heard}
 use Rattle.channel_core.specs.declared.message.Incoming.{Incoming}
 use Rattle.channel_core.specs.Call.{Entry}
-use Rattle.channel_core.specs.History.{PutMessage, acked_numbers, emitted_numbers, is_closed, lowest_unacked, put_messages, taken_items}
+use Rattle.channel_core.specs.History.{PutMessage, acked_numbers, emitted_numbers, has_ended, is_closed, lowest_unacked, put_messages, taken_items}
 use Rattle.channel_core.specs.Legal.{IsAnswered, IsLegal, answer_to_ack, answer_to_heard}
 use Rattle.channel_core.specs.Numbers.{has_number, least_absent, numbers_of}
 use Rattle.channel_core.specs.Resending.{due_count, last_moment, round_trip, round_trip_samples, transmissions}
@@ -185,12 +185,14 @@ acked_goes w h now n moment old new legal s unclosed some is =
       pending = ps;
       dues = cond (eqb (first_number (kept_all t) (length (put_messages h))) n) 0
           (due_count h (lowest_unacked h));
+      ended = has_ended h;
     }) (sym (kept_all-acked t n))
     ∙ ap (λ (k : ℕ). record {
       window = w;
       next = length (put_messages h);
       pending = kept_all more;
       dues = cond (eqb k n) 0 (due_count h (lowest_unacked h));
+      ended = has_ended h;
     }) low
     ∙ ap (λ (k : ℕ). queue_of w more k) (dues_acked w h now n legal)
     ∙ ap (λ (u : Sending). queue_of w u after) (sym (sending-acked t n)) in

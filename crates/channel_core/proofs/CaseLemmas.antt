@@ -10,7 +10,7 @@ use Rattle.channel_core.specs.declared.message.Outgoing.{Outgoing}
 use Rattle.channel_core.specs.declared.answer.Pull.{Pull}
 use Rattle.channel_core.specs.declared.answer.Put.{Put}
 use Rattle.channel_core.specs.Call.{Entry}
-use Rattle.channel_core.specs.History.{PutMessage, acked_numbers, emitted_numbers, is_closed, items_released, message_emitted, message_put, message_taken, number_acked, owed_acks, owed_after, put_messages, taken_items}
+use Rattle.channel_core.specs.History.{PutMessage, acked_numbers, emitted_numbers, is_closed, is_finished, items_released, message_emitted, message_put, message_taken, number_acked, owed_acks, owed_after, put_messages, taken_items}
 use Rattle.channel_core.specs.Legal.{IsAnswered, answer_to_heard, answer_to_incoming, answer_to_pull, answer_to_put, answer_to_tick, emit_message, items_released_by}
 use Rattle.channel_core.specs.Numbers.{has_number, numbers_of}
 use Rattle.channel_core.specs.Resending.{is_eligible}
@@ -22,6 +22,7 @@ pub record IsQuiet (call : EndCall) (answer : EndAnswer) : Type 0 where
   pub acked : number_acked answer ≡ None
   pub taken : message_taken answer call ≡ None
   pub released : items_released answer ≡ []
+  pub finished : is_finished answer ≡ false
   pub emitted : message_emitted answer ≡ None
   pub owed : (w : ℕ) (owed : List (ℕ × List ℕ)) → owed_after w owed answer call ≡ owed
 

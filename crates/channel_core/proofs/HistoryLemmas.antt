@@ -8,6 +8,8 @@ use Rattle.std.proofs.lemmas.List.Elements.{filter_map-append}
 use Rattle.std.proofs.lemmas.List.Folds.{list_any-append}
 use Rattle.std.proofs.lemmas.List.Sums.{sum_by-append}
 use Rattle.chan_values.specs.declared.item.Item.{Item}
+use Rattle.channel_core.specs.declared.call.EndAnswer.{EndAnswer}
+use Rattle.channel_core.specs.declared.call.EndCall.{EndCall}
 use Rattle.channel_core.specs.Call.{Entry, earlier_from, with_earlier}
 use Rattle.channel_core.specs.History.{PutMessage, TakenMessage, acked_numbers, closes, emissions, is_closed, is_paused, is_up, finished_count, is_finished, items_of, items_released, message_emitted, message_put, message_taken, number_acked, owed_acks, owed_after, paused_after, put_items, put_messages, released_items, taken_items, taken_messages, up_after}
 use Rattle.channel_core.specs.Resending.{marked_after, marked_due, number_transmitted, round_trip_samples, sample_of, sent_after, sent_since_opened, transmissions}

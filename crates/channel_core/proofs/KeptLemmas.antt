@@ -37,12 +37,12 @@ pub kept_all-put : (s : Sending) (m : PutMessage)
     → has_number s.sent (length s.put) ≡ false
     → has_number s.due (length s.put) ≡ false
     → kept_all (record s { put = s.put ++ m ∷ [] }) ≡ kept_all s ++ new_message
-    (length s.put) m.item m.id m.date ∷ []
+    (length s.put) m.item m.id m.date m.last ∷ []
 kept_all-put s m acked emitted sent due =
     let len = length s.put in
     let after : Sending = record s { put = s.put ++ m ∷ [] } in
     let longer : length (s.put ++ m ∷ []) ≡ len + 1 = length_push s.put m in
-    let last : kept_at after (0 + len) ≡ Some (new_message len m.item m.id m.date)
+    let last : kept_at after (0 + len) ≡ Some (new_message len m.item m.id m.date m.last)
     = let at : 0 + len ≡ len = omega arith in
     rw (at, acked, slice_get-last s.put m, emitted, sent, due) refl in
     ap (λ (n : ℕ). filter_map (kept_at after) (range_with_len 0 n)) longer
@@ -50,7 +50,7 @@ kept_all-put s m acked emitted sent due =
     ∙ filter_map-append (kept_at after) (range_with_len 0 len) (range_with_len (0 + len) 1)
     ∙ ap (λ (o : Option Pending). filter_map (kept_at after) (range_with_len 0 len)
     ++ cons_option o []) last
-    ∙ ap (λ (l : List Pending). l ++ new_message len m.item m.id m.date ∷ [])
+    ∙ ap (λ (l : List Pending). l ++ new_message len m.item m.id m.date m.last ∷ [])
     (filter_map-agree (kept_at after) (kept_at s) 0 len
     (λ k low high. ap
     (λ (o : Option PutMessage). cond (has_number s.acked k) None (option_map (message_of s k) o))

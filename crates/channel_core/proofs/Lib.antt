@@ -10,6 +10,7 @@ pub mod EarlyLemmas
 pub mod EncodableLemmas
 pub mod EndLemmas
 pub mod ExchangeLemmas
+pub mod FinishLemmas
 pub mod HeardLemmas
 pub mod HistoryLemmas
 pub mod ItemLemmas
@@ -20,6 +21,7 @@ pub mod OwedLemmas
 pub mod OwedSinceLemmas
 pub mod OrderLemmas
 pub mod PassLemmas
+pub mod PastLemmas
 pub mod IdleLemmas
 pub mod PendingLemmas
 pub mod KeptLemmas
@@ -36,6 +38,7 @@ pub mod SinceLaws
 pub mod SoundLemmas
 pub mod WindowLemmas
 pub mod StandsLemmas
+pub mod StartLemmas
 pub mod TickLemmas
 pub mod WireLemmas
 pub mod WorldLemmas

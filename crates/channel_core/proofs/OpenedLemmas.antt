@@ -4,7 +4,7 @@ use Rattle.resend_queue.specs.Queue.{Pending, reopened}
 use Rattle.channel_core.specs.declared.call.EndAnswer.{EndAnswer}
 use Rattle.channel_core.specs.declared.call.EndCall.{EndCall}
 use Rattle.channel_core.specs.Call.{Entry}
-use Rattle.channel_core.specs.History.{lowest_unacked, put_messages}
+use Rattle.channel_core.specs.History.{has_ended, lowest_unacked, put_messages}
 use Rattle.channel_core.specs.Legal.{IsLegal}
 use Rattle.channel_core.specs.Resending.{due_count}
 use Rattle.channel_core.specs.Stands.{EndState, Stands}
@@ -59,6 +59,7 @@ opened_goes w h now old new legal s is =
       next = length (put_messages h);
       pending = ps;
       dues = due_count h (lowest_unacked h);
+      ended = has_ended h;
     }) (sym (kept_all-unsent t))
     ∙ ap (λ (n : ℕ). queue_of w (record t { sent = [] }) n) (sym dues)
     ∙ ap (λ (u : Sending). queue_of w u (due_count (h ++ e ∷ []) (lowest_unacked (h ++ e ∷ []))))

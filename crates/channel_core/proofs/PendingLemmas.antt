@@ -26,6 +26,7 @@ message_of s n m =
       id = m.id;
       date = m.date;
       item = m.item;
+      last = m.last;
       emitted = cond (has_number s.emitted n) (Some (last_moment s.moments n)) None;
       sent = has_number s.sent n;
       due = has_number s.due n;

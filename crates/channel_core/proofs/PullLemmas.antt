@@ -11,7 +11,7 @@ use Rattle.channel_core.specs.declared.call.EndCall.{EndCall}
 use Rattle.channel_core.specs.declared.message.Outgoing.{Outgoing}
 use Rattle.channel_core.specs.declared.answer.Pull.{Pull}
 use Rattle.channel_core.specs.Call.{Entry}
-use Rattle.channel_core.specs.History.{PutMessage, acked_numbers, emitted_numbers, is_closed, is_up, lowest_unacked, owed_acks, put_messages}
+use Rattle.channel_core.specs.History.{PutMessage, acked_numbers, emitted_numbers, has_ended, is_closed, is_up, lowest_unacked, owed_acks, put_messages}
 use Rattle.channel_core.specs.Legal.{IsLegal, answer_to_pull, emit_message, emit_next, emit_number}
 use Rattle.channel_core.specs.Numbers.{has_number, least_below}
 use Rattle.channel_core.specs.Resending.{due_count, is_eligible, marked_due, sent_since_opened, transmissions}
@@ -178,6 +178,7 @@ emit_goes w h now sent old new legal s is given =
       next = length (put_messages h);
       pending = ps;
       dues = due_count h (lowest_unacked h);
+      ended = has_ended h;
     }) (sym (kept_all-emitted t sent.seq now))
     ∙ ap (λ (k : ℕ). queue_of w more k) (sym dues) in
     step_goes w h old new (EndCall.Pull now)

@@ -1,30 +1,38 @@
 -- What an end keeps, one entry on.
 use Rattle.std.proofs.Common.{◌≡◌, ℕ, ◌+◌, Bool, true, false, cond, ◌||◌, Option, None, List, [], ◌∷◌, ◌++◌, refl, sym, ap, subst, ◌∙◌, arith, length, rules}
-use Rattle.std.specs.List.{cons_option}
+use Rattle.std.specs.List.{cons_option, list_any}
 use Rattle.std.specs.List.Sorted.{IsPermutation}
+use Rattle.std.specs.Option.{option_map}
 use Rattle.std.proofs.lemmas.List.{append-nil}
-use Rattle.std.proofs.lemmas.List.Sorted.{IsPermutation-refl}
 use Rattle.chan_values.specs.declared.item.Item.{Item}
-use Rattle.resend_queue.specs.Queue.{Pending, QueueState, empty_queue}
-use Rattle.resend_queue.specs.RoundTrips.{after_samples, no_sample}
-use Rattle.receive_window.specs.Window.{WindowState, empty_window}
+use Rattle.resend_queue.specs.Queue.{Pending, QueueState}
+use Rattle.resend_queue.specs.RoundTrips.{after_samples}
+use Rattle.receive_window.specs.Window.{WindowState}
 use Rattle.channel_core.specs.declared.call.EndAnswer.{EndAnswer}
 use Rattle.channel_core.specs.declared.call.EndCall.{EndCall}
-use Rattle.channel_core.specs.Call.{Entry, with_earlier}
-use Rattle.channel_core.specs.History.{PutMessage, acked_numbers, closes, is_closed, is_paused, is_up, lowest_unacked, number_acked, owed_acks, owed_after, paused_after, put_messages, taken_items, up_after}
+use Rattle.channel_core.specs.Call.{Entry}
+use Rattle.channel_core.specs.History.{PutMessage, TakenMessage, acked_numbers, closes, has_ended, is_closed, is_paused, is_up, lowest_unacked, message_taken, number_acked, owed_acks, owed_after, paused_after, put_messages, taken_items, taken_messages, up_after}
 use Rattle.channel_core.specs.Legal.{IsAnswered, IsLegal}
 use Rattle.channel_core.specs.Numbers.{least_absent, numbers_of}
 use Rattle.channel_core.specs.Resending.{due_count, is_due, round_trip_samples, sample_of}
 use Rattle.channel_core.specs.Stands.{EndState, Stands, queue_after}
 use Rattle.channel_core.proofs.EarlyLemmas.{early_of}
-use Rattle.channel_core.proofs.HistoryLemmas.{acked_numbers-push, is_closed-push, is_paused-push, is_up-push, item_taken, owed_acks-push, round_trip_samples-push, taken_items-push}
+use Rattle.channel_core.proofs.EndLemmas.{last_of}
+use Rattle.channel_core.proofs.HistoryLemmas.{acked_numbers-push, is_closed-push, is_paused-push, is_up-push, item_of, item_taken, owed_acks-push, round_trip_samples-push, taken_items-push, taken_messages-push}
 use Rattle.channel_core.proofs.LegalLemmas.{IsLegal-push}
 use Rattle.channel_core.proofs.PendingLemmas.{Sending, kept_all, kept_all-unacked}
 use Rattle.channel_core.proofs.SendingLemmas.{due_count-push, sending, sending-push, sending_after}
 
 -- the send queue that this makes
 abbrev pub queue_of : ℕ → Sending → ℕ → QueueState
-queue_of w s dues = record { window = w; next = length s.put; pending = kept_all s; dues = dues }
+queue_of w s dues =
+    record {
+      window = w;
+      next = length s.put;
+      pending = kept_all s;
+      dues = dues;
+      ended = list_any (λ m. m.last) s.put;
+    }
 
 pub queue_after-is : (w : ℕ) (h : List Entry)
     → queue_after w h ≡ queue_of w (sending h) (due_count h (lowest_unacked h))
@@ -34,6 +42,7 @@ queue_after-is w h =
       next = length (put_messages h);
       pending = ps;
       dues = due_count h (lowest_unacked h);
+      ended = has_ended h;
     }) (kept_all-unacked (sending h))
 
 -- what was taken, with this entry
@@ -47,6 +56,8 @@ pub record Keeps (w : ℕ) (end : EndState) (h : List Entry) (e : Entry) : Type 
   pub window : end.received.window ≡ w
   pub expected : end.received.expected ≡ least_absent (numbers_of (taken_after h e))
   pub early : IsPermutation (early_of (taken_after h e)) end.received.early
+  pub last : end.received.last
+      ≡ last_of (taken_messages h ++ cons_option (message_taken e.answer e.call) [])
   pub estimate : end.estimate ≡ after_samples
       (round_trip_samples h ++ cons_option (sample_of h e.answer e.call) [])
   pub owed : end.owed ≡ owed_after w (owed_acks w h) e.answer e.call
@@ -74,6 +85,7 @@ stands w end h e k =
       early = subst
           (λ (l : List (ℕ × Item)). IsPermutation (early_of l) end.received.early)
           (sym taken) k.early;
+      last = k.last ∙ ap last_of (sym (taken_messages-push h e));
       estimate = k.estimate ∙ ap after_samples (sym (round_trip_samples-push h e));
       owed = k.owed ∙ sym (owed_acks-push w h e);
       up = k.up ∙ sym (is_up-push h e);
@@ -104,7 +116,7 @@ pub step_goes : (w : ℕ) (h : List Entry) (old new : EndState) (call : EndCall)
     → IsLegal w h
     → Stands w old h
     → IsAnswered w h call answer
-    → item_taken answer call ≡ None
+    → message_taken answer call ≡ None
     → sample_of h answer call ≡ None
     → (let e : Entry = record { call = call; answer = answer } in
     new.queue ≡ queue_of w (sending_after (sending h) answer call)
@@ -120,7 +132,8 @@ step_goes w h old new call answer legal s answered takes_none samples_none queue
     owed up paused closed =
     let e : Entry = record { call = call; answer = answer } in
     let taken : taken_after h e ≡ taken_items h
-    = ap (λ (o : Option (ℕ × Item)). taken_items h ++ cons_option o []) takes_none
+    = ap (λ (o : Option TakenMessage). taken_items h ++ cons_option (option_map item_of o) [])
+    takes_none
     ∙ append-nil (taken_items h) in
     goes w h new call answer legal answered (record {
       queue = queue;
@@ -132,6 +145,10 @@ step_goes w h old new call answer legal s answered takes_none samples_none queue
           (subst
           (λ (l : List (ℕ × Item)). IsPermutation (early_of l) old.received.early)
           (sym taken) s.early);
+      last = ap (λ (r : WindowState). r.last) received ∙ s.last
+          ∙ ap last_of (sym (ap (λ (o : Option TakenMessage).
+          taken_messages h ++ cons_option o []) takes_none
+          ∙ append-nil (taken_messages h)));
       estimate = estimate ∙ s.estimate ∙ ap after_samples
           (sym (ap (λ (o : Option ℕ). round_trip_samples h ++ cons_option o []) samples_none
           ∙ append-nil (round_trip_samples h)));
@@ -213,7 +230,7 @@ sending-still s = rw
 pub record IsStill (h : List Entry) (call : EndCall) (answer : EndAnswer) : Type 0 where
   pub sending : (s : Sending) → sending_after s answer call ≡ s
   pub acked : number_acked answer ≡ None
-  pub taken : item_taken answer call ≡ None
+  pub taken : message_taken answer call ≡ None
   pub sample : sample_of h answer call ≡ None
   pub due : (n : ℕ) → is_due n answer ≡ false
 
@@ -270,31 +287,3 @@ nothing_goes w h old new call answer legal s same answered still owed up paused 
     (ap (λ (e : EndState). e.paused) same ∙ sym (paused old.paused))
     (ap (λ (e : EndState). e.closed) same ∙ sym (or-false old.closed)
     ∙ ap (λ (b : Bool). old.closed || b) (sym closes))
-
--- ---- a new end
-
--- a new end stands for no calls
-pub stands_nil : (w : ℕ) (end : EndState)
-    → end ≡ record {
-      queue = empty_queue w;
-      received = empty_window w;
-      estimate = no_sample;
-      owed = [];
-      up = false;
-      paused = false;
-      closed = false;
-    }
-    → Stands w end []
-unfolding put_messages acked_numbers taken_items owed_acks is_up is_paused is_closed
-    round_trip_samples with_earlier after_samples least_absent
-stands_nil w end is = rw is (record {
-  queue = refl;
-  window = refl;
-  expected = refl;
-  early = IsPermutation-refl [];
-  estimate = refl;
-  owed = refl;
-  up = refl;
-  paused = refl;
-  closed = refl;
-})

@@ -9,7 +9,7 @@ use Rattle.channel_core.specs.declared.call.EndCall.{EndCall}
 use Rattle.channel_core.specs.declared.answer.Look.{Look}
 use Rattle.channel_core.specs.declared.answer.Tick.{Tick}
 use Rattle.channel_core.specs.Call.{Entry}
-use Rattle.channel_core.specs.History.{PutMessage, emitted_numbers, is_closed, is_up, lowest_unacked, put_messages}
+use Rattle.channel_core.specs.History.{PutMessage, emitted_numbers, has_ended, is_closed, is_up, lowest_unacked, put_messages}
 use Rattle.channel_core.specs.Legal.{IsAnswered, IsLegal, answer_to_tick, is_expired, look_at}
 use Rattle.channel_core.specs.Numbers.{has_number}
 use Rattle.channel_core.specs.Resending.{due_count, last_moment, marked_due, round_trip, sent_since_opened, transmissions}
@@ -123,6 +123,7 @@ due_goes w h now n old new legal s given is =
       next = length (put_messages h);
       pending = ps;
       dues = due_count h (lowest_unacked h) + 1;
+      ended = has_ended h;
     }) (sym (kept_all-marked t n))
     ∙ ap (λ (k : ℕ). queue_of w more k) count
     ∙ ap (λ (u : Sending). queue_of w u after) (sym (sending-still more)) in
@@ -179,8 +180,11 @@ look_of end =
       next = end.queue.next;
       low = lowest end.queue;
       expected = end.received.expected;
-      room = cond end.closed 0 (end.received.window - (end.queue.next - lowest end.queue));
+      room =
+          cond (end.closed || end.queue.ended) 0
+          (end.received.window - (end.queue.next - lowest end.queue));
       closed = end.closed;
+      finished = end.queue.ended;
     }
 
 look_at-is : (w : ℕ) (h : List Entry) (end : EndState)
@@ -194,7 +198,8 @@ look_at-is w h end legal s =
     let low : lowest end.queue ≡ lowest_unacked h = ap lowest queue
     ∙ first_number-kept (sending h) (low-le (sending h) (orderly w h legal)) in
     let next : end.queue.next ≡ length (put_messages h) = ap (λ (q : QueueState). q.next) queue in
-    rw (low, next, s.expected, s.window, s.closed) refl
+    let ended : end.queue.ended ≡ has_ended h = ap (λ (q : QueueState). q.ended) queue in
+    rw (low, next, ended, s.expected, s.window, s.closed) refl
 
 pub look_goes : (w : ℕ) (h : List Entry) (look : Look) (old new : EndState)
     → IsLegal w h

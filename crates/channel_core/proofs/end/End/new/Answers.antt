@@ -1,5 +1,5 @@
 use Rattle.std.proofs.Common.{refl}
-use Rattle.channel_core.proofs.StandsLemmas.{stands_nil}
+use Rattle.channel_core.proofs.StartLemmas.{stands_nil}
 use Rattle.channel_core.proofs.end.End.new.Goals as goal
 
 pub returns : goal.returns

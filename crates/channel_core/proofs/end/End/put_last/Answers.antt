@@ -1,0 +1,18 @@
+use Rattle.std.proofs.Common.{refl}
+use Rattle.channel_core.proofs.PutLemmas.{is_put_last, put_closed_goes, put_goes}
+use Rattle.channel_core.proofs.end.End.put_last.Goals as goal
+
+pub returns-then-self : goal.returns-then-self
+returns-then-self c w h legal s =
+    put_closed_goes w h _ _ c.args.self.now c.args.self.now
+    (is_put_last c.args.item c.args.id c.args.now) legal s
+    (rw (← c.self.view_is) c.if-self.true)
+
+pub returns : goal.returns
+returns c w h legal s =
+    rw c.put_answer.ensures
+    (put_goes w h _ _ c.args.self.now _ c.put_last.result
+    (is_put_last c.args.item c.args.id c.args.now) legal s
+    (rw (← c.self.view_is) c.if-self.false)
+    (rw (← c.self.view_is) c.put_last.ensures.answer)
+    (rw (← c.self.view_is, c.put_last.ensures.state, c.max.ensures) refl))
