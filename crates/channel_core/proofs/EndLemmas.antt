@@ -235,7 +235,7 @@ any_last test taken top =
     list_any_none (λ (m : TakenMessage). m.last && test m.seq) taken
     (All-weaker (λ (m : TakenMessage). m.last ≡ false)
     (λ (m : TakenMessage). (m.last && test m.seq) ≡ false)
-    (λ m no. rw no refl) taken (last_of-none taken none))
+    (λ m other. rw other refl) taken (last_of-none taken none))
     ∙ sym (ap (passes_last test) none))
     (λ (found : (n : ℕ) × (last_of taken ≡ Some n)).
     some found.0 found.1 ∙ sym (ap (passes_last test) found.1))
@@ -246,30 +246,30 @@ any_last test taken top =
         → list_any (λ m. m.last && test m.seq) taken ≡ test n
     some n is =
         ⊎_elim
-        (λ (yes : test n ≡ true).
+        (λ (passes : test n ≡ true).
         let found = last_of-some taken n is in
         let m = found.0 in
-        let passes : (m.last && test m.seq) ≡ true = rw (found.2, found.3, yes) refl in
+        let both : (m.last && test m.seq) ≡ true = rw (found.2, found.3, passes) refl in
         list_any-from_Any (λ (m : TakenMessage). m.last && test m.seq) taken
-        (found.1.0, m, found.1.1, found.1.2, passes)
-        ∙ sym yes)
-        (λ (no : test n ≡ false).
+        (found.1.0, m, found.1.1, found.1.2, both)
+        ∙ sym passes)
+        (λ (misses : test n ≡ false).
         list_any_none (λ (m : TakenMessage). m.last && test m.seq) taken
         (All-weaker (Contains taken)
         (λ (m : TakenMessage). (m.last && test m.seq) ≡ false)
-        (λ m there. fails m there no) taken (All-contains_itself taken))
-        ∙ sym no)
+        (λ m there. fails m there misses) taken (All-contains_itself taken))
+        ∙ sym misses)
         (cases_Bool (test n))
       where
         fails : (m : TakenMessage)
             → Contains taken m
             → test n ≡ false
             → (m.last && test m.seq) ≡ false
-        fails m there no =
+        fails m there misses =
             ⊎_elim
             (λ (last : m.last ≡ true).
             let number : Some m.seq ≡ Some n = sym (last_of-is taken m top there last) ∙ is in
             let same : m.seq ≡ n = cc in
-            rw (last, same, no) refl)
+            rw (last, same, misses) refl)
             (λ (not_last : m.last ≡ false). rw not_last refl)
             (cases_Bool m.last)

@@ -166,7 +166,8 @@ finished_is_once w h legal =
     rw is (at (is_below (last_of (taken_messages h)) (least_absent (seqs_of (taken_messages h)))))
   where
     at : (b : Bool) → cond b 1 0 ≤ 1
-    at b = omega arith
+    at true = omega arith
+    at false = omega arith
 
 -- ---- puts
 

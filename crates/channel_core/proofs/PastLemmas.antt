@@ -87,8 +87,8 @@ past_end-none taken n last is =
         → (k : ℕ)
         → has_number (seqs_of taken) k ≡ true
         → k ≤ n
-    above true is yes k there = least_above-none (seqs_of taken) n is k there
-    above false is yes k there = absurd (unlike yes)
+    above true is sure k there = least_above-none (seqs_of taken) n is k there
+    above false is sure k there = absurd (unlike sure)
       where
         unlike : false ≡ true → ⊥
         unlike is = cc
@@ -116,7 +116,7 @@ last_below-is taken n top =
         → cond (is_below (last_of taken) n) (last_of taken) None ≡ None
     absent none =
         ⊎_elim
-        (λ (no : last_of taken ≡ None). rw no refl)
+        (λ (nowhere : last_of taken ≡ None). rw nowhere refl)
         (λ (found : (k : ℕ) × (last_of taken ≡ Some k)).
         let message = last_of-some taken found.0 found.1 in
         let all = find-none (λ (t : TakenMessage). t.last && ltb t.seq n) taken

@@ -12,6 +12,7 @@
 
 ghost use Rattle.channel_core.specs.Laws.{AcksKeepTheirOrder, ClosedIsClosedOnce, EachNumberIsOwedOnce, EachNumberIsTakenOnce, EmissionsCanBeEncoded, MarkedIsDueLast};
 ghost use Rattle.channel_core.specs.Laws.{OwedIsHeardLast, PausedIsPausedLast, ReleasedIsInOrder, SentIsEmittedSinceOpened, UpIsOpenedLast, WindowBoundsMessages};
+ghost use Rattle.channel_core.specs.Laws.{FinishedIsOnce, FinishedIsWhole, NothingFollowsTheLast, NothingIsPastTheEnd};
 ghost use Rattle.channel_core.specs.Laws.{AcknowledgedHasArrived, ExchangeIsPossible, ExchangeIsShort, ExchangeReleasesAll, NothingIsBeyond, ReleasedIsPrefix, WorldsGoOn};
 
 /// An end is up exactly where it was connected and the connection was not lost since.
@@ -68,6 +69,16 @@ pub fn released_is_in_order()
     ensures { ReleasedIsInOrder }
 {}
 
+/// An end answers at most once that the last item is released.
+pub fn finished_is_once()
+    ensures { FinishedIsOnce }
+{}
+
+/// After an item that was put in as the last no other is put in.
+pub fn nothing_follows_the_last()
+    ensures { NothingFollowsTheLast }
+{}
+
 /// With the window w an end keeps at most w unacknowledged messages, w - 1 early items and w
 /// acknowledgements that it owes.
 pub fn window_bounds_messages()
@@ -98,6 +109,17 @@ pub fn acknowledged_has_arrived()
 /// No message is answered as beyond the receive window, however late it comes.
 pub fn nothing_is_beyond()
     ensures { NothingIsBeyond }
+{}
+
+/// No message is answered as past the end of its direction.
+pub fn nothing_is_past_the_end()
+    ensures { NothingIsPastTheEnd }
+{}
+
+/// An end has answered that the last item is released exactly where the other end was given its last
+/// item, and all that was put in there is released.
+pub fn finished_is_whole()
+    ensures { FinishedIsWhole }
 {}
 
 /// After any legal and honest world, one exchange without a loss, at the end of which neither end is
