@@ -1,8 +1,9 @@
 -- What a sender and a receiver agree on in each legal and honest world.
-use Rattle.std.proofs.Common.{◌≡◌, ℕ, ◌+◌, ◌<◌, ◌≤◌, zero, suc, Bool, true, Option, Some, None, List, [], ◌∷◌, ◌++◌, ◌⊎◌, inl, inr, refl, sym, ap, subst, ◌∙◌, arith, length, map, slice_get}
-use Rattle.std.specs.List.{All, cons_option}
+use Rattle.std.proofs.Common.{◌≡◌, ℕ, ◌+◌, ◌<◌, ◌≤◌, zero, suc, Bool, true, Option, Some, None, List, [], ◌∷◌, ◌++◌, ◌⊎◌, inl, inr, refl, sym, ap, subst, ◌∙◌, arith, length, map, slice_get, false, max}
+use Rattle.std.specs.List.{All, cons_option, list_any}
 use Rattle.std.specs.Option.{IfSome}
-use Rattle.std.proofs.lemmas.List.{map-append}
+use Rattle.std.proofs.lemmas.Bool.{both_ways, or_parts}
+use Rattle.std.proofs.lemmas.List.{append-nil, map-append}
 use Rattle.std.proofs.lemmas.List.Elements.{All-append, All-cons, All-contains, All-nil, All-weaker}
 use Rattle.std.proofs.lemmas.Option.{slice_get-map}
 use Rattle.chan_values.specs.declared.item.Item.{Item}
@@ -11,7 +12,7 @@ use Rattle.channel_core.specs.declared.call.EndCall.{EndCall}
 use Rattle.channel_core.specs.declared.message.Incoming.TheVariants as Incoming
 use Rattle.channel_core.specs.declared.message.Outgoing.{Outgoing}
 use Rattle.channel_core.specs.Call.{Entry}
-use Rattle.channel_core.specs.History.{PutMessage, TakenMessage, acked_numbers, emissions, lowest_unacked, message_emitted, message_put, number_acked, owed_acks, put_items, put_messages, taken_items, taken_messages}
+use Rattle.channel_core.specs.History.{PutMessage, TakenMessage, acked_numbers, emissions, has_ended, lowest_unacked, message_emitted, message_put, number_acked, owed_acks, put_items, put_messages, taken_items, taken_messages}
 use Rattle.channel_core.specs.Legal.{IsAnswered, IsNoMemory}
 use Rattle.channel_core.specs.Numbers.{has_number, numbers_of}
 use Rattle.channel_core.specs.World.{WasEmitted}
@@ -44,6 +45,10 @@ IsPutAs items p = slice_get items p.0 ≡ Some p.1
 abbrev pub EndsAs : List Bool → TakenMessage → Type 0
 EndsAs lasts m = slice_get lasts m.seq ≡ Some m.last
 
+-- what was put in as the last is the last
+abbrev pub EndsLast : List Bool → Type 0
+EndsLast lasts = (k : ℕ) → slice_get lasts k ≡ Some true → k + 1 ≡ length lasts
+
 -- a number that is owed was taken
 abbrev pub IsTaken : List ℕ → ℕ × List ℕ → Type 0
 IsTaken taken p = has_number taken p.0 ≡ true
@@ -52,6 +57,7 @@ IsTaken taken p = has_number taken p.0 ≡ true
 pub record Agree (w : ℕ) (s r : List Entry) : Type 0 where
   pub sent : All (IsSentFrom (put_items s) (put_lasts s) (lowest_unacked s + w)) (emissions s)
   pub taken : All (IsPutAs (put_items s)) (taken_items r)
+  pub ended : EndsLast (put_lasts s)
   pub ends : All (EndsAs (put_lasts s)) (taken_messages r)
   pub owed : All (IsTaken (numbers_of (taken_items r))) (owed_acks w r)
   pub acks : All (AcksTaken (numbers_of (taken_items r))) (emissions r)
@@ -79,6 +85,51 @@ put_lasts-push h e =
     ap (map (λ (m : PutMessage). m.last)) (put_messages-push h e)
     ∙ map-append
     (λ (m : PutMessage). m.last) (put_messages h) (cons_option (message_put e.answer e.call) [])
+
+-- where no message was the last before, the one that is put in may be
+new_end : (puts : List PutMessage) (m : PutMessage)
+    → list_any (λ p. p.last) puts ≡ false
+    → EndsLast (map (λ p. p.last) (puts ++ m ∷ []))
+new_end [] m none zero is = omega arith
+new_end [] m none (suc k) is = cc
+new_end (p ∷ puts) m none zero is =
+    let first = (or_parts p.last (list_any (λ (q : PutMessage). q.last) puts) none).0 in
+    let never : Some p.last ≡ Some true = is in
+    absurd (both_ways p.last first (cc))
+new_end (p ∷ puts) m none (suc k) is =
+    let rest = (or_parts p.last (list_any (λ (q : PutMessage). q.last) puts) none).1 in
+    let end = new_end puts m rest k is in
+    omega arith
+
+ended_after : (w : ℕ) (s : List Entry) (call : EndCall) (answer : EndAnswer)
+    → EndsLast (put_lasts s)
+    → IsAnswered w s call answer
+    → EndsLast (put_lasts s ++ map (λ m. m.last) (cons_option (message_put answer call) []))
+ended_after w s call answer ended answered =
+    let same : EndsLast (put_lasts s ++ []) = rw (append-nil (put_lasts s)) ended in
+    by_cases w s
+    (λ call answer.
+    EndsLast (put_lasts s ++ map (λ m. m.last) (cons_option (message_put answer call) [])))
+    (record {
+      quiet = λ call answer quiet. rw quiet.put same;
+      seq = λ item id now free.
+          put (record { item = item; id = id; date = max now 1; last = false }) free.goes_on;
+      seq_last = λ item id now free.
+          put (record { item = item; id = id; date = max now 1; last = true }) free.goes_on;
+      late = λ now n id item last there. same;
+      released = λ now n id item last new so. same;
+      finished = λ now n id item last new so. same;
+      acked = λ now n out before. same;
+      emit_ack = λ now p owed is. same;
+      emit_stream = λ now n m below eligible is. same;
+    }) call answer answered
+  where
+    put : (m : PutMessage)
+        → has_ended s ≡ false
+        → EndsLast (put_lasts s ++ m.last ∷ [])
+    put m none =
+        subst EndsLast (map-append (λ (p : PutMessage). p.last) (put_messages s) (m ∷ []))
+        (new_end (put_messages s) m none)
 
 -- an emission has its item, within the window
 emission_sent : (w : ℕ) (s : List Entry) (call : EndCall) (answer : EndAnswer)
@@ -178,6 +229,7 @@ sender_after w s r e agree sound answered emitted =
       taken = rw puts
           (All-weaker (IsPutAs (put_items s)) (IsPutAs (put_items s ++ more))
           (λ p is. slice_get-more (put_items s) more p.0 p.1 is) (taken_items r) agree.taken);
+      ended = rw lasts (ended_after w s e.call e.answer agree.ended answered);
       ends = rw lasts
           (All-weaker (EndsAs (put_lasts s)) (EndsAs (put_lasts s ++ others))
           (λ m is. slice_get-more (put_lasts s) others m.seq m.last is)

@@ -101,7 +101,7 @@ pub window_bounds_messages : WindowBoundsMessages
 window_bounds_messages w h legal = within_window w h (sound w h legal)
 
 -- the sender is the other end
-agree_from : (w : ℕ) (world : List Event) (side : Side)
+pub agree_from : (w : ℕ) (world : List Event) (side : Side)
     → IsLegalWorld w world
     → IsHonest world
     → Agree w (history_of (other side) world) (history_of side world)

@@ -72,6 +72,7 @@ due_answered w h call n answered =
     at : (call : EndCall) → EndAnswer.Tick (Tick.Due n) ≡ answer_to w h call → IsExpired h n
     at (EndCall.Tick now) is = due_answer h now n cc
     at (EndCall.Put item id now) is = cc
+    at (EndCall.PutLast item id now) is = cc
     at (EndCall.Heard now incoming) is = cc
     at (EndCall.Pull now) is = cc
     at EndCall.Lost is = cc

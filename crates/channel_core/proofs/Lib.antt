@@ -21,6 +21,7 @@ pub mod OwedLemmas
 pub mod OwedSinceLemmas
 pub mod OrderLemmas
 pub mod PassLemmas
+pub mod PastHeardLemmas
 pub mod PastLemmas
 pub mod IdleLemmas
 pub mod PendingLemmas
@@ -39,6 +40,9 @@ pub mod SoundLemmas
 pub mod WindowLemmas
 pub mod StandsLemmas
 pub mod StartLemmas
+pub mod TakesLemmas
 pub mod TickLemmas
 pub mod WireLemmas
+pub mod WholeLemmas
+pub mod WithinLemmas
 pub mod WorldLemmas

@@ -13,7 +13,7 @@ use Rattle.channel_core.specs.declared.call.EndCall.{EndCall}
 use Rattle.channel_core.specs.declared.message.Incoming.TheVariants as Incoming
 use Rattle.channel_core.specs.declared.message.Outgoing.{Outgoing}
 use Rattle.channel_core.specs.Call.{Entry}
-use Rattle.channel_core.specs.History.{TakenMessage, acked_numbers, emissions, lowest_unacked, message_emitted, message_taken, owed_acks, owed_after, owed_with, put_items, taken_items, taken_messages}
+use Rattle.channel_core.specs.History.{TakenMessage, acked_numbers, emissions, lowest_unacked, message_emitted, message_taken, owed_acks, owed_after, owed_with, put_items, put_messages, taken_items, taken_messages}
 use Rattle.channel_core.specs.Legal.{IsAnswered}
 use Rattle.channel_core.specs.Numbers.{has_number, numbers_of}
 use Rattle.channel_core.specs.World.{Event, IsHonest, IsLegalWorld, WasEmitted, history_of}
@@ -157,6 +157,7 @@ receiver_after w s r e agree answered emitted =
       taken = rw taken_items-push
           (All-append Put (taken_items r) new agree.taken
           (All-option Put (item_taken e.answer e.call) (items (message_taken e.answer e.call) put)));
+      ended = agree.ended;
       ends = rw taken_messages-push
           (All-append (EndsAs (put_lasts s)) (taken_messages r)
           (cons_option (message_taken e.answer e.call) []) agree.ends
@@ -191,11 +192,12 @@ abbrev pub BothAgree : ℕ → List Event → Type 0
 BothAgree w world = (side : Side) → Agree w (history_of side world) (history_of (other side) world)
 
 agree_nil : (w : ℕ) → BothAgree w []
-unfolding history_of acked_numbers emissions owed_acks taken_items taken_messages
+unfolding history_of acked_numbers emissions owed_acks put_messages taken_items taken_messages
 agree_nil w side =
     record {
       sent = All-nil _;
       taken = All-nil _;
+      ended = λ k is. cc;
       ends = All-nil _;
       owed = All-nil _;
       acks = All-nil _;

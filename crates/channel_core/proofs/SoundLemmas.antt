@@ -11,7 +11,7 @@ use Rattle.receive_window.specs.Window.{items_in_order}
 use Rattle.channel_core.specs.declared.call.EndAnswer.{EndAnswer}
 use Rattle.channel_core.specs.declared.call.EndCall.{EndCall}
 use Rattle.channel_core.specs.Call.{Entry}
-use Rattle.channel_core.specs.History.{PutMessage, TakenMessage, acked_numbers, items_released, lowest_unacked, message_put, message_taken, next_in_order, number_acked, owed_acks, owed_after, owed_with, put_messages, released_items, taken_items}
+use Rattle.channel_core.specs.History.{PutMessage, TakenMessage, acked_numbers, items_released, lowest_unacked, message_put, message_taken, next_in_order, number_acked, owed_acks, owed_after, owed_with, put_messages, released_items, taken_items, taken_messages}
 use Rattle.channel_core.specs.Legal.{IsAnswered, IsLegal, items_released_by}
 use Rattle.channel_core.specs.Numbers.{least_absent, numbers_of}
 use Rattle.channel_core.proofs.HistoryLemmas.{acked_numbers-push, by_pushes, item_of, item_taken, owed_acks-push, put_messages-push, released_items-push, taken_items-push}
@@ -190,7 +190,7 @@ sound_after w h e sound answered =
         (taken_items h) (item_of m) sound.once (numbers_apart (taken_items h) m.seq is_new.absent)
 
 sound_nil : (w : ℕ) → IsConsistent w []
-unfolding put_messages acked_numbers taken_items released_items owed_acks least_absent
+unfolding put_messages acked_numbers taken_items taken_messages released_items owed_acks least_absent
 sound_nil w =
     record {
       room = omega arith;

@@ -258,7 +258,8 @@ impl End {
         let next = self.queue.next();
         let low = self.queue.low();
         let finished = self.queue.ended();
-        let room = if self.closed || finished {
+        let shut = self.closed || finished;
+        let room = if shut {
             0
         } else {
             self.window.saturating_sub(next.saturating_sub(low))
