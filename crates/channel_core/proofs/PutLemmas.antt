@@ -19,7 +19,7 @@ use Rattle.channel_core.specs.Stands.{EndState, Stands, put_answer_of}
 use Rattle.channel_core.proofs.PendingLemmas.{Sending, kept_all}
 use Rattle.channel_core.proofs.KeptLemmas.{kept_all-put}
 use Rattle.channel_core.proofs.SearchLemmas.{first_number-kept}
-use Rattle.channel_core.proofs.SendingLemmas.{IsOrderly, sending}
+use Rattle.channel_core.proofs.SendingLemmas.{IsOrderly, sending, sending_after}
 use Rattle.channel_core.proofs.DueLemmas.{low-le, orderly}
 use Rattle.channel_core.proofs.StandsLemmas.{Goes, dues-same, nothing_goes, or-false, queue_after-is, queue_of, sending-put, sending-still, step_goes}
 use Rattle.chan_values.specs.Limits.{max_seq}
@@ -179,6 +179,8 @@ module _ (w : ℕ) (h : List Entry) (call : EndCall) (m : PutMessage) (old new :
       let dues : due_count (h ++ e ∷ []) (lowest_unacked (h ++ e ∷ [])) ≡ due_count h
       (lowest_unacked h) = dues-same h e refl ∙ zero in
       let more : Sending = record t { put = put_messages h ++ m ∷ [] } in
+      let sends : sending_after t (EndAnswer.Put (Put.Seq n)) call ≡ more
+      = rw (is_put.put, is_put.sent) (sending-put t m) in
       let kept : kept_all more ≡ kept_all t ++ new_message n m.item m.id m.date m.last ∷ []
       = kept_all-put t m (none (acked_numbers h) order.acked)
       (none (emitted_numbers h) (λ k there. there)) (none (sent_since_opened h) order.sent)
@@ -213,7 +215,7 @@ module _ (w : ℕ) (h : List Entry) (call : EndCall) (m : PutMessage) (old new :
       (inl (ap (λ (p : Put). EndAnswer.Put p) given ∙ sym (is_put.answer w h))) refl refl
       (rw is (queue ∙ ap
       (λ (u : Sending). queue_of w u (due_count (h ++ e ∷ []) (lowest_unacked (h ++ e ∷ []))))
-      (sym (rw (is_put.put, is_put.sent) (sending-put t m)))))
+      (sym sends)))
       (rw is refl) (rw is refl) (rw is refl) (rw is (sym (is_put.up old.up)))
       (rw is (sym (is_put.paused old.paused (Put.Seq n))))
       (rw (is, is_put.closes) (sym (or-false old.closed)))
@@ -245,10 +247,7 @@ module _ (w : ℕ) (h : List Entry) (call : EndCall) (m : PutMessage) (old new :
           same in
           let next : n ≡ length (put_messages h) = known.0 in
           rw next (seq_goes is_put legal s known.1
-          (is ∙ ap
-          (λ (k : ℕ). record old {
-            queue = after_put old.queue m.item m.id m.date m.last (Kept.Seq k);
-          }) next) (sym (ap (λ (k : ℕ). Put.Seq k) next) ∙ given))
+          is (sym (ap (λ (k : ℕ). Put.Seq k) next) ∙ given))
       by (Kept.Past back) is given same = refused_goes is_put legal s (Put.Past back) refl is given
       by (Kept.Spent back) is given same = refused_goes is_put legal s (Put.Spent back) refl is given
       by (Kept.Full back) is given same = refused_goes is_put legal s (Put.Full back) refl is given

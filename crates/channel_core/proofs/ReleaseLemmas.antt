@@ -48,7 +48,7 @@ taken_goes w h now n id item last items finished received old new legal s unclos
     by finished t
   where
     -- how often the lowest timer expired, with this entry
-    abbrev dues : EndAnswer → ℕ
+    dues : EndAnswer → ℕ
     dues answer =
         let e : Entry = record { call = stream_call now n id item last; answer = answer } in
         due_count (h ++ e ∷ []) (lowest_unacked (h ++ e ∷ []))

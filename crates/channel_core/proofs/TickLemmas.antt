@@ -13,7 +13,7 @@ use Rattle.channel_core.specs.History.{PutMessage, emitted_numbers, has_ended, i
 use Rattle.channel_core.specs.Legal.{IsAnswered, IsLegal, answer_to_tick, is_expired, look_at}
 use Rattle.channel_core.specs.Numbers.{has_number}
 use Rattle.channel_core.specs.Resending.{due_count, last_moment, marked_due, round_trip, sent_since_opened, transmissions}
-use Rattle.channel_core.specs.Stands.{EndState, Stands}
+use Rattle.channel_core.specs.Stands.{EndState, Stands, room_of}
 use Rattle.channel_core.proofs.PendingLemmas.{Sending, message_of}
 use Rattle.channel_core.proofs.KeptLemmas.{kept_all-marked}
 use Rattle.channel_core.proofs.SearchLemmas.{first_number-kept, kept_all-first, kept_all-none}
@@ -180,9 +180,7 @@ look_of end =
       next = end.queue.next;
       low = lowest end.queue;
       expected = end.received.expected;
-      room =
-          cond (end.closed || end.queue.ended) 0
-          (end.received.window - (end.queue.next - lowest end.queue));
+      room = room_of end;
       closed = end.closed;
       finished = end.queue.ended;
     }

@@ -1,10 +1,10 @@
 -- What an end keeps, and the histories that it stands for.
-use Rattle.std.specs.Prelude.{◌≡◌, ℕ, Bool, Some, None, List, [], ◌∷◌, ◌++◌, length, if◌then◌else◌, slice_get}
+use Rattle.std.specs.Prelude.{◌≡◌, ℕ, ◌-◌, ◌||◌, Bool, Some, None, List, [], ◌∷◌, ◌++◌, length, if◌then◌else◌, slice_get}
 use Rattle.std.specs.List.{filter_map}
 use Rattle.std.specs.List.Sorted.{IsPermutation}
 use Rattle.std.specs.Option.{option_map}
 use Rattle.resend_queue.specs.declared.answer.Kept.{Kept}
-use Rattle.resend_queue.specs.Queue.{Pending, QueueState}
+use Rattle.resend_queue.specs.Queue.{Pending, QueueState, lowest}
 use Rattle.resend_queue.specs.RoundTrips.{RoundTrip}
 use Rattle.receive_window.specs.Window.{WindowState}
 use Rattle.channel_core.specs.declared.answer.Put.{Put}
@@ -61,6 +61,12 @@ queue_after w h =
       dues = due_count h (lowest_unacked h);
       ended = has_ended h;
     }
+
+-- how many items may be put in at an end
+abbrev pub room_of : EndState → ℕ
+room_of end =
+    if end.closed || end.queue.ended then 0
+    else end.received.window - (end.queue.next - lowest end.queue)
 
 -- the answer of an end to a put, by that of its queue
 abbrev pub put_answer_of : Kept → Put

@@ -17,7 +17,7 @@
 ghost use Rattle.std.specs.Prelude.{◌≡◌, ◌≤◌, ◌<◌, ◌^◌, ℕ, false, [], IfOk, length};
 ghost use Rattle.chan_values.specs.Limits.{max_payload, max_window};
 ghost use Rattle.channel_core.specs.Condition.{CanBeEncoded, IfEmitted, IsNumbered};
-ghost use Rattle.channel_core.specs.Stands.{Follows, Stands, put_answer_of};
+ghost use Rattle.channel_core.specs.Stands.{Follows, Stands, put_answer_of, room_of};
 ghost use Rattle.channel_core.specs.declared.call.EndAnswer.TheVariants as EndAnswer;
 ghost use Rattle.channel_core.specs.declared.call.EndCall.TheVariants as EndCall;
 ghost use Rattle.channel_core.specs.declared.message.Incoming.TheVariants as Incoming;
@@ -255,23 +255,25 @@ impl End {
     pub fn look(&self) -> Look
         ensures { Follows self.now self.now EndCall.Look (EndAnswer.Look result) }
     {
-        let next = self.queue.next();
-        let low = self.queue.low();
-        let finished = self.queue.ended();
-        let shut = self.closed || finished;
-        let room = if shut {
-            0
-        } else {
-            self.window.saturating_sub(next.saturating_sub(low))
-        };
         Look {
-            next,
-            low,
+            next: self.queue.next(),
+            low: self.queue.low(),
             expected: self.received.expected(),
-            room,
+            room: self.room(),
             closed: self.closed,
-            finished,
+            finished: self.queue.ended(),
         }
+    }
+
+    /// How many items may be put in.
+    fn room(&self) -> u64
+        ensures { result ≡ room_of self.now }
+    {
+        if self.closed || self.queue.ended() {
+            return 0;
+        }
+        let waiting = self.queue.next().saturating_sub(self.queue.low());
+        self.window.saturating_sub(waiting)
     }
 }
 
