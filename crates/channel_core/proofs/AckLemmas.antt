@@ -13,11 +13,12 @@ use Rattle.channel_core.specs.declared.call.EndCall.{EndCall}
 use Rattle.channel_core.specs.declared.answer.Heard.{Heard}
 use Rattle.channel_core.specs.declared.message.Incoming.{Incoming}
 use Rattle.channel_core.specs.Call.{Entry}
-use Rattle.channel_core.specs.History.{PutMessage, acked_numbers, emitted_numbers, has_ended, is_closed, lowest_unacked, put_messages, taken_items}
+use Rattle.channel_core.specs.History.{PutMessage, acked_numbers, emitted_numbers, has_ended, is_closed, lowest_unacked, put_messages, taken_items, taken_messages}
 use Rattle.channel_core.specs.Legal.{IsAnswered, IsLegal, answer_to_ack, answer_to_heard}
 use Rattle.channel_core.specs.Numbers.{has_number, least_absent, numbers_of}
 use Rattle.channel_core.specs.Resending.{due_count, last_moment, round_trip, round_trip_samples, transmissions}
 use Rattle.channel_core.specs.Stands.{EndState, Stands}
+use Rattle.channel_core.proofs.EndLemmas.{last_of}
 use Rattle.channel_core.proofs.EarlyLemmas.{early_of}
 use Rattle.channel_core.proofs.HistoryLemmas.{acked_numbers-push}
 use Rattle.channel_core.proofs.NumberLemmas.{least_absent-grows, least_absent-is, least_absent-unique, has_number-last, has_number-more, has_number-other}
@@ -212,6 +213,7 @@ acked_goes w h now n moment old new legal s unclosed some is =
           (subst
           (λ (l : List (ℕ × Item)). IsPermutation (early_of l) old.received.early)
           (sym taken) s.early);
+      last = rw is (s.last ∙ ap last_of (sym (append-nil (taken_messages h))));
       estimate = rw is estimate;
       owed = rw is s.owed;
       up = rw is s.up;

@@ -1,5 +1,5 @@
 -- What is read of an acknowledgement that was written, and of a message that was encoded.
-use Rattle.std.proofs.Common.{◌≡◌, ◌⊎◌, inl, inr, ℕ, ℤ, ◌+◌, ◌^◌, ◌<◌, true, pos, nat_abs, List, [], ◌∷◌, ◌++◌, length, length-append, length-drop, take-append-drop, drop, slice_range, Result, Ok, Err, All, IsUtf8, to_z, of_z, refl, sym, ap, ◌∙◌, subst, arith, ltb-true}
+use Rattle.std.proofs.Common.{◌≡◌, ◌⊎◌, inl, inr, ℕ, ℤ, ◌+◌, ◌^◌, ◌<◌, true, pos, nat_abs, List, [], ◌∷◌, ◌++◌, length, length-append, length-drop, take-append-drop, drop, slice_range, Result, Ok, Err, All, IsUtf8, to_z, of_z, refl, sym, ap, ◌∙◌, subst, arith, ltb-true, false, Bool, cond, eqb}
 use Rattle.std.specs.Prelude.{int_lt, nat_lt, IsAscii}
 use Rattle.std.specs.List.{list_all}
 use Rattle.std.specs.Int.{w32, w64, to_be_bytes, cast_unsigned}
@@ -26,7 +26,7 @@ use Rattle.channel_core.proofs.WireLemmas.{fits_signed, length-payload}
 use Rattle.channel_core.specs.declared.wire.InRefusal.TheVariants as InRefusal
 use Rattle.agent_message.specs.declared.message.Message.{Message}
 use Rattle.json_bodies.specs.Ack.{IsWritableAck}
-use Rattle.channel_core.specs.Wire.{CanBeEncoded, ack_body, ack_message, data_name, encoding, message_of}
+use Rattle.channel_core.specs.Wire.{CanBeEncoded, ack_body, ack_message, data_name, encoding, message_of, has_fin}
 
 -- ---- the body of an acknowledgement
 
@@ -159,6 +159,13 @@ IsEncodable-message_of side (Outgoing.Ack seq id date) can fits =
       dated = inl can.1;
     }
 
+-- the flags of a stream message have FIN where it is the last
+has_fin-flags : (first last : Bool) → has_fin (cond first 1 0 + cond last 2 0) ≡ last
+has_fin-flags true true = refl
+has_fin-flags true false = refl
+has_fin-flags false true = refl
+has_fin-flags false false = refl
+
 pub heard_again : (side : Side) (bytes : List ℕ) (m : Message) (result : Answer)
     → All (λ byte. byte < 256) bytes
     → IsAnswer (Hears side m) result
@@ -169,8 +176,13 @@ pub heard_again : (side : Side) (bytes : List ℕ) (m : Message) (result : Answe
     → bytes ≡ encoding (other side) out → m ≡ message_of (other side) out
     → AnswerOrNoMemory result (Ok (incoming_of out))
 heard_again side bytes m result small heard written (Outgoing.Stream sent) can fits spelled is =
-    heard.only (Ok (Incoming.Stream sent.seq sent.id sent.item))
-    (inl (ap (λ x. x.name) is, (ap (λ x. x.seq) is, ap (λ x. x.id) is, ap item_of is)))
+    heard.only (Ok (Incoming.Stream sent.seq sent.id sent.item sent.last))
+    (inl (ap (λ x. x.name) is, (
+      ap (λ x. x.seq) is,
+      ap (λ x. x.id) is,
+      ap item_of is,
+      ap (λ x. has_fin x.flags) is ∙ has_fin-flags (eqb sent.seq 0) sent.last,
+    )))
 heard_again side bytes m result small heard written (Outgoing.Ack seq id date) can fits spelled is =
     written seq id date can.0 fits.id
     (id_bytes (ack_message (other side) seq id date) fits.id

@@ -63,7 +63,7 @@ idle_next h now [] running idle =
         → ⊥
     message n None below is idle =
         let m : PutMessage
-        = record { item = record { ptype = 0; payload = [] }; id = []; date = 0 } in
+        = record { item = record { ptype = 0; payload = [] }; id = []; date = 0; last = false } in
         let value = slice_get-get_or (put_messages h) n m below in
         cc
     message n (Some m) below is idle = cc

@@ -19,6 +19,7 @@ use Rattle.channel_core.specs.Resending.{sent_after, sent_since_opened}
 use Rattle.channel_core.specs.World.{Event, WasEmitted}
 use Rattle.channel_core.proofs.AgreementLemmas.{Agree}
 use Rattle.channel_core.proofs.DeliveryLemmas.{not_beyond}
+use Rattle.channel_core.proofs.WithinLemmas.{not_past}
 use Rattle.channel_core.proofs.HistoryLemmas.{emissions-push, is_paused-push, is_up-push, item_taken, put_messages-push, sent_since_opened-push, taken_items-push}
 use Rattle.channel_core.proofs.ItemLemmas.{numbers_of-append}
 use Rattle.channel_core.proofs.LegalLemmas.{ack_cases, answered_cases, stream_cases}
@@ -86,18 +87,23 @@ pub record Hears (r : List Entry) (call : EndCall) (answer : EndAnswer)
   pub sent : sent_after (sent_since_opened r) answer call ≡ sent_since_opened r
   pub takes : Takes (taken_items r ++ cons_option (item_taken answer call) []) out
 
--- the answer to an emission that is heard, neither late for the end nor beyond its window
+-- an answer by which a message that was emitted is taken, or was before
+abbrev IsTakenBy : Heard → Type 0
+IsTakenBy heard = (heard ≢ Heard.Beyond) × ((m : ℕ) → heard ≢ Heard.PastEnd m)
+
+-- the answer to an emission that is heard, neither beyond the window nor past the end
 hears_answer : (w now : ℕ) (r : List Entry) (out : Outgoing)
-    → answer_to_incoming w r (incoming_of out) ≢ Heard.Beyond
+    → IsTakenBy (answer_to_incoming w r (incoming_of out))
     → Hears r
     (EndCall.Heard now (incoming_of out))
     (EndAnswer.Heard (answer_to_incoming w r (incoming_of out)))
     out
 hears_answer w now r (Outgoing.Stream m) inside =
-    let call = EndCall.Heard now (Incoming.Stream m.seq m.id m.item) in
+    let call = EndCall.Heard now (Incoming.Stream m.seq m.id m.item m.last) in
     let taken = taken_items r in
-    stream_cases w r m.seq m.item
-    (λ heard. heard ≢ Heard.Beyond → Hears r call (EndAnswer.Heard heard) (Outgoing.Stream m))
+    let there = has_number-last (numbers_of taken) m.seq in
+    stream_cases w r m.seq m.item m.last
+    (λ heard. IsTakenBy heard → Hears r call (EndAnswer.Heard heard) (Outgoing.Stream m))
     (λ there inside.
     record {
       up = refl;
@@ -106,10 +112,12 @@ hears_answer w now r (Outgoing.Stream m) inside =
       sent = refl;
       takes = rw (append-nil taken) there;
     })
-    (λ far inside. absurd (inside refl))
-    (λ absent near inside.
-    let last = has_number-last (numbers_of taken) m.seq in
-    record { up = refl; paused = refl; put = refl; sent = refl; takes = rw numbers_of-append last })
+    (λ far inside. absurd (inside.0 refl))
+    (λ k new past inside. absurd (inside.1 k refl))
+    (λ new so inside.
+    record { up = refl; paused = refl; put = refl; sent = refl; takes = rw numbers_of-append there })
+    (λ new so inside.
+    record { up = refl; paused = refl; put = refl; sent = refl; takes = rw numbers_of-append there })
     inside
 hears_answer w now r (Outgoing.Ack n id date) inside =
     let call = EndCall.Heard now (Incoming.Ack n) in
@@ -127,7 +135,10 @@ pub hears : (w now : ℕ) (s r : List Entry) (out : Outgoing) (answer : EndAnswe
     → Hears r (EndCall.Heard now (incoming_of out)) answer out
 hears w now s r out answer agree emitted answered unclosed memory =
     let call = EndCall.Heard now (incoming_of out) in
-    let inside = not_beyond w now s r (incoming_of out) agree emitted in
+    let inside : IsTakenBy (answer_to_heard w r (incoming_of out)) = (
+      not_beyond w now s r (incoming_of out) agree emitted,
+      λ m. not_past w now m s r (incoming_of out) agree emitted,
+    ) in
     answered_cases w r call answer answered
     (λ (is : answer ≡ EndAnswer.Heard (answer_to_heard w r (incoming_of out))).
     rw (is, unclosed) (hears_answer w now r out (rw unclosed at inside)))

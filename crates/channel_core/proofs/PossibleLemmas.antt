@@ -66,11 +66,13 @@ heard_plain w h out =
         (EndCall.Heard 0 (incoming_of out)) (incoming_of out)
         (answer_to_incoming w h (incoming_of out))
     plain (Outgoing.Stream m) =
-        let incoming = Incoming.Stream m.seq m.id m.item in
-        stream_cases w h m.seq m.item (IsPlain (EndCall.Heard 0 incoming) incoming)
+        let incoming = Incoming.Stream m.seq m.id m.item m.last in
+        stream_cases w h m.seq m.item m.last (IsPlain (EndCall.Heard 0 incoming) incoming)
         (λ there. record { memory = λ is. cc; stays = refl })
         (λ far. record { memory = λ is. cc; stays = refl })
-        (λ absent near. record { memory = λ is. cc; stays = refl })
+        (λ k new past. record { memory = λ is. cc; stays = refl })
+        (λ new so. record { memory = λ is. cc; stays = refl })
+        (λ new so. record { memory = λ is. cc; stays = refl })
     plain (Outgoing.Ack n id date) =
         ack_cases h n (IsPlain (EndCall.Heard 0 (Incoming.Ack n)) (Incoming.Ack n))
         (λ emitted before. record { memory = λ is. cc; stays = refl })
