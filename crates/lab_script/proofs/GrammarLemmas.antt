@@ -1,17 +1,15 @@
 -- Words that begin with those of a command or an action, and words that are those of none.
-use Rattle.std.proofs.Common.{◌≡◌, ◌≢◌, ℕ, ◌<◌, ◌^◌, true, false, List, [], ◌∷◌, ◌++◌, refl, sym, ap, subst, ◌∙◌, decimal}
-use Rattle.chan_values.specs.declared.item.Item.{Item}
+use Rattle.std.proofs.Common.{◌≡◌, ◌≢◌, ℕ, ◌<◌, ◌^◌, false, List, [], ◌∷◌, refl, sym, decimal}
 use Rattle.chan_values.specs.declared.side.Side.{Side}
 use Rattle.lab_script.specs.declared.command.Action.{Action}
 use Rattle.lab_script.specs.declared.command.Command.{Command}
 use Rattle.lab_script.specs.declared.verb.Verb.{Verb}
 use Rattle.lab_script.specs.declared.verb.Verb.TheVariants as verbs
-use Rattle.lab_script.specs.declared.word.Which.{Which}
-use Rattle.lab_script.specs.Command.{IsAction, IsCommand, IsPayload, operands_of, verb_of, words_of}
-use Rattle.lab_script.specs.Grammar.{IsNoAction, IsNoCommand}
+use Rattle.lab_script.specs.Command.{IsAction, operands_of, verb_of}
+use Rattle.lab_script.specs.Grammar.{IsNoCommand}
 use Rattle.lab_script.specs.Verb.{verb_text}
-use Rattle.lab_script.specs.Words.{side_text, hex_text, which_text, IsWhich}
-use Rattle.lab_script.proofs.Spelling.{first_verb, words_behind, words_of-parts}
+use Rattle.lab_script.specs.Words.{side_text}
+use Rattle.lab_script.proofs.Spelling.{first_verb, words_of-parts}
 use Rattle.lab_script.proofs.Verbs.{of_one_end, of_one_end-verb_of, same_verb}
 
 -- ---- words of no command

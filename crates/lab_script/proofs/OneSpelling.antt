@@ -4,6 +4,7 @@ use Rattle.std.specs.Prelude.{codes}
 use Rattle.std.proofs.lemmas.Fmt.{decimal_injective, decimal_is_IsNumeral}
 use Rattle.std.specs.Str.Parse.{IsNumeral}
 use Rattle.hex.specs.Hex.{decode_of}
+use Rattle.chan_values.specs.declared.item.Item.{Item}
 use Rattle.chan_values.specs.declared.side.Side.{Side}
 use Rattle.chan_values.specs.declared.side.Side.TheVariants.{Plugin, Agent}
 use Rattle.lab_script.specs.declared.command.Action.{Action}
@@ -11,12 +12,12 @@ use Rattle.lab_script.specs.declared.command.Command.{Command}
 use Rattle.lab_script.specs.declared.verb.Verb.TheVariants as verbs
 use Rattle.lab_script.specs.declared.word.Which.{Which}
 use Rattle.lab_script.specs.declared.word.Which.TheVariants.{Number, Last}
-use Rattle.lab_script.specs.Command.{IsAction, IsCommand, IsPayload, Says, operands_of, verb_of, words_of}
+use Rattle.lab_script.specs.Command.{IsAction, IsCommand, IsItem, IsPayload, Says, item_words, operands_of, verb_of, words_of}
 use Rattle.lab_script.specs.Words.{side_text, hex_text, which_text, IsWhich}
 use Rattle.lab_script.proofs.GrammarLemmas.{not_of_one_end}
 use Rattle.lab_script.proofs.Payloads.{decode_of-hex_text, length-hex_text}
 use Rattle.lab_script.proofs.Spelling.{words-from_Says}
-use Rattle.lab_script.proofs.Verbs.{of_one_end, same_verb}
+use Rattle.lab_script.proofs.Verbs.{same_verb}
 
 -- ---- each word stands for one value
 
@@ -47,16 +48,22 @@ same_payload (x ∷ xs) (y ∷ ys) fits_a fits_b e =
 
 -- ---- and so do all words of a command
 
+same_item : (a b : Item) → IsItem a → IsItem b → item_words a ≡ item_words b → a ≡ b
+same_item a b fits_a fits_b same =
+    let types : a.ptype ≡ b.ptype =
+    decimal_injective a.ptype b.ptype (omega (arith, fits_a.0)) (omega (arith, fits_b.0))
+    (cc same) in
+    let payloads : a.payload ≡ b.payload =
+    same_payload a.payload b.payload fits_a.1 fits_b.1 (cc same) in
+    ap (λ (n : ℕ). record { ptype = n; payload = a.payload }) types
+    ∙ ap (λ (p : List ℕ). record { ptype = b.ptype; payload = p }) payloads
+
 same_action : (a b : Action)
     → IsAction a → IsAction b → verb_of a ≡ verb_of b → operands_of a ≡ operands_of b → a ≡ b
 same_action (Action.Put item) (Action.Put item') fits fits' verb same =
-    let types : item.ptype ≡ item'.ptype =
-    decimal_injective item.ptype item'.ptype (omega (arith, fits.0)) (omega (arith, fits'.0))
-    (cc same) in
-    let payloads : item.payload ≡ item'.payload =
-    same_payload item.payload item'.payload fits.1 fits'.1 (cc same) in
-    ap (λ (n : ℕ). Action.Put (record { ptype = n; payload = item.payload })) types
-    ∙ ap (λ (p : List ℕ). Action.Put (record { ptype = item'.ptype; payload = p })) payloads
+    ap (λ (i : Item). Action.Put i) (same_item item item' fits fits' same)
+same_action (Action.PutLast item) (Action.PutLast item') fits fits' verb same =
+    ap (λ (i : Item). Action.PutLast i) (same_item item item' fits fits' same)
 same_action (Action.Hear which) (Action.Hear which') fits fits' verb same =
     ap (λ (w : Which). Action.Hear w) (same_which which which' fits fits' (cc same))
 same_action (Action.Hurt which place) (Action.Hurt which' place') fits fits' verb same =

@@ -1,8 +1,9 @@
 -- A command and the words of its text.
-use Rattle.std.proofs.Common.{◌≡◌, ◌≢◌, ℕ, ◌+◌, ◌<◌, ◌^◌, Bool, true, false, List, [], ◌∷◌, ◌++◌, length, refl, sym, ap, ◌∙◌, arith, decimal}
+use Rattle.std.proofs.Common.{◌≡◌, ℕ, ◌+◌, List, [], ◌∷◌, ◌++◌, length, refl, sym, ap, ◌∙◌, arith, decimal}
 use Rattle.std.specs.Prelude.{codes}
 use Rattle.std.specs.List.{AllByRecursion}
 use Rattle.std.proofs.lemmas.List.{length-append, nil_from_length}
+use Rattle.chan_values.specs.declared.item.Item.{Item}
 use Rattle.chan_values.specs.declared.side.Side.{Side}
 use Rattle.chan_values.specs.declared.side.Side.TheVariants.{Plugin, Agent}
 use Rattle.lab_script.specs.declared.command.Action.{Action}
@@ -11,7 +12,7 @@ use Rattle.lab_script.specs.declared.verb.Verb.{Verb}
 use Rattle.lab_script.specs.declared.verb.Verb.TheVariants as verbs
 use Rattle.lab_script.specs.declared.word.Which.{Which}
 use Rattle.lab_script.specs.declared.word.Which.TheVariants.{Number, Last}
-use Rattle.lab_script.specs.Command.{IsAction, IsCommand, IsScriptLine, Says, operands_of, spelling, verb_of, words_of}
+use Rattle.lab_script.specs.Command.{IsAction, IsCommand, IsItem, Says, item_words, operands_of, spelling, verb_of, words_of}
 use Rattle.lab_script.specs.Lines.{words_in}
 use Rattle.lab_script.specs.Verb.{verb_text}
 use Rattle.lab_script.specs.Words.{side_text, hex_text, which_text, IsWhich}
@@ -32,10 +33,14 @@ IsWord-hex_text : (bytes : List ℕ) → IsWord (hex_text bytes)
 IsWord-hex_text [] = IsWord-from_test (codes "-") refl
 IsWord-hex_text (b ∷ bytes) = IsWord-encode_lower (b ∷ bytes)
 
+AreWords-item_words : (item : Item) → IsItem item → AllByRecursion IsWord (item_words item)
+AreWords-item_words item fits =
+    (IsWord-decimal item.ptype (omega (arith, fits.0)), (IsWord-hex_text item.payload, tt))
+
 AreWords-operands_of : (action : Action) → IsAction action
     → AllByRecursion IsWord (operands_of action)
-AreWords-operands_of (Action.Put item) fits =
-    (IsWord-decimal item.ptype (omega (arith, fits.0)), (IsWord-hex_text item.payload, tt))
+AreWords-operands_of (Action.Put item) fits = AreWords-item_words item fits
+AreWords-operands_of (Action.PutLast item) fits = AreWords-item_words item fits
 AreWords-operands_of (Action.Hear which) fits = (IsWord-which_text which fits, tt)
 AreWords-operands_of (Action.Hurt which place) fits =
     (IsWord-which_text which fits.0, (IsWord-decimal place fits.1, tt))
@@ -92,6 +97,7 @@ words_of-parts (Command.On side action) = refl
 word_count : Verb → ℕ
 word_count verbs.Settle = 0
 word_count verbs.Put = 3
+word_count verbs.Last = 3
 word_count verbs.Hear = 2
 word_count verbs.Hurt = 3
 word_count _ = 1
@@ -100,6 +106,7 @@ length-operands_of : (action : Action)
     → length (operands_of action) + 1 ≡ word_count (verb_of action)
 unfolding word_count
 length-operands_of (Action.Put item) = refl
+length-operands_of (Action.PutLast item) = refl
 length-operands_of _ = refl
 
 length-words_behind : (command : Command)

@@ -12,6 +12,7 @@ use Rattle.lab_script.proofs.WordLists.{IsWord, IsWord-from_test}
 pub IsWord-verb_text : (verb : Verb) → IsWord (verb_text verb)
 IsWord-verb_text verbs.At = IsWord-from_test (codes "at") refl
 IsWord-verb_text verbs.Put = IsWord-from_test (codes "put") refl
+IsWord-verb_text verbs.Last = IsWord-from_test (codes "last") refl
 IsWord-verb_text verbs.Pull = IsWord-from_test (codes "pull") refl
 IsWord-verb_text verbs.Tick = IsWord-from_test (codes "tick") refl
 IsWord-verb_text verbs.Close = IsWord-from_test (codes "close") refl
@@ -29,6 +30,7 @@ verb_from : List ℕ → Verb
 verb_from word =
     cond (bytes_eq word (codes "at")) verbs.At (
     cond (bytes_eq word (codes "put")) verbs.Put (
+    cond (bytes_eq word (codes "last")) verbs.Last (
     cond (bytes_eq word (codes "pull")) verbs.Pull (
     cond (bytes_eq word (codes "tick")) verbs.Tick (
     cond (bytes_eq word (codes "close")) verbs.Close (
@@ -39,12 +41,13 @@ verb_from word =
     cond (bytes_eq word (codes "pause")) verbs.Pause (
     cond (bytes_eq word (codes "start")) verbs.Start (
     cond (bytes_eq word (codes "end")) verbs.End (
-    verbs.Settle))))))))))))
+    verbs.Settle)))))))))))))
 
 verb_from-verb_text : (verb : Verb) → verb_from (verb_text verb) ≡ verb
 unfolding verb_from
 verb_from-verb_text verbs.At = refl
 verb_from-verb_text verbs.Put = refl
+verb_from-verb_text verbs.Last = refl
 verb_from-verb_text verbs.Pull = refl
 verb_from-verb_text verbs.Tick = refl
 verb_from-verb_text verbs.Close = refl
@@ -69,4 +72,5 @@ of_one_end _ = true
 -- so does a line with the verb of an action
 pub of_one_end-verb_of : (action : Action) → of_one_end (verb_of action) ≡ true
 of_one_end-verb_of (Action.Put item) = refl
+of_one_end-verb_of (Action.PutLast item) = refl
 of_one_end-verb_of _ = refl

@@ -2,6 +2,7 @@
 use Rattle.std.specs.Prelude.{◌≡◌, ℕ, ◌<◌, ◌≤◌, ◌^◌, List, [], ◌∷◌, length, decimal, All, ⊤}
 use Rattle.std.specs.List.{join_with_byte}
 use Rattle.chan_values.specs.Limits.{max_payload}
+use Rattle.chan_values.specs.declared.item.Item.{Item}
 use Rattle.lab_script.specs.declared.command.Action.{Action}
 use Rattle.lab_script.specs.declared.command.Command.{Command}
 use Rattle.lab_script.specs.declared.verb.Verb.{Verb}
@@ -11,6 +12,7 @@ use Rattle.lab_script.specs.Words.{side_text, hex_text, which_text, IsWhich}
 -- the verb of an action
 abbrev pub verb_of : Action → Verb
 verb_of (Action.Put item) = Verb.Put
+verb_of (Action.PutLast item) = Verb.Last
 verb_of Action.Pull = Verb.Pull
 verb_of Action.Tick = Verb.Tick
 verb_of Action.Close = Verb.Close
@@ -22,9 +24,14 @@ verb_of Action.Pause = Verb.Pause
 verb_of Action.Start = Verb.Start
 verb_of Action.End = Verb.End
 
+-- the words of an item: its type and its payload
+abbrev pub item_words : Item → List (List ℕ)
+item_words item = decimal item.ptype ∷ hex_text item.payload ∷ []
+
 -- the words of an action behind its verb and its end, in order
 abbrev pub operands_of : Action → List (List ℕ)
-operands_of (Action.Put item) = decimal item.ptype ∷ hex_text item.payload ∷ []
+operands_of (Action.Put item) = item_words item
+operands_of (Action.PutLast item) = item_words item
 operands_of (Action.Hear which) = which_text which ∷ []
 operands_of (Action.Hurt which place) = which_text which ∷ decimal place ∷ []
 operands_of action = []
@@ -44,9 +51,14 @@ spelling command = join_with_byte 32 (words_of command)
 abbrev pub IsPayload : List ℕ → Type 0
 IsPayload bytes = All (λ b. b < 256) bytes × (length bytes ≤ max_payload)
 
+-- the type and the payload of an item are in range
+abbrev pub IsItem : Item → Type 0
+IsItem item = (item.ptype < 2 ^ 32) × IsPayload item.payload
+
 -- the numbers and the payload of an action are in range
 abbrev pub IsAction : Action → Type 0
-IsAction (Action.Put item) = (item.ptype < 2 ^ 32) × IsPayload item.payload
+IsAction (Action.Put item) = IsItem item
+IsAction (Action.PutLast item) = IsItem item
 IsAction (Action.Hear which) = IsWhich which
 IsAction (Action.Hurt which place) = IsWhich which × (place < 2 ^ 64)
 IsAction action = ⊤

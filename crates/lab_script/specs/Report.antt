@@ -4,7 +4,7 @@ use Rattle.std.specs.List.{join_with_byte}
 use Rattle.chan_values.specs.declared.item.Item.{Item}
 use Rattle.chan_values.specs.declared.side.Side.{Side}
 use Rattle.lab_script.specs.declared.outcome.Outcome.{Outcome}
-use Rattle.lab_script.specs.declared.outcome.Outcome.TheVariants.{Seq, Full, Closed, Spent, Emit, Idle, Released, Late, Beyond, Acked, UnknownAck, Paused, Started, Ended, AfterClose, Absent, Refused, Passed, Nothing, Due, GaveUp, Quiet}
+use Rattle.lab_script.specs.declared.outcome.Outcome.TheVariants.{Seq, Full, Closed, Past, Spent, Emit, Idle, Released, Finished, Late, Beyond, PastEnd, Acked, UnknownAck, Paused, Started, Ended, AfterClose, Absent, Refused, Passed, Nothing, Due, GaveUp, Quiet}
 use Rattle.lab_script.specs.declared.verb.Verb.{Verb}
 use Rattle.lab_script.specs.Verb.{verb_text}
 use Rattle.lab_script.specs.Words.{side_text, hex_text}
@@ -18,12 +18,15 @@ abbrev pub outcome_words : Outcome → List (List ℕ)
 outcome_words (Seq n) = codes "seq" ∷ decimal n ∷ []
 outcome_words Full = codes "full" ∷ []
 outcome_words Closed = codes "closed" ∷ []
+outcome_words Past = codes "past" ∷ []
 outcome_words Spent = codes "spent" ∷ []
 outcome_words (Emit n encoding) = codes "emit" ∷ decimal n ∷ hex_text encoding ∷ []
 outcome_words Idle = codes "idle" ∷ []
 outcome_words (Released items) = codes "released" ∷ decimal (length items) ∷ map item_text items
+outcome_words (Finished items) = codes "finished" ∷ decimal (length items) ∷ map item_text items
 outcome_words Late = codes "late" ∷ []
 outcome_words Beyond = codes "beyond" ∷ []
+outcome_words (PastEnd n) = codes "past-end" ∷ decimal n ∷ []
 outcome_words (Acked n) = codes "acked" ∷ decimal n ∷ []
 outcome_words (UnknownAck n) = codes "unknown-ack" ∷ decimal n ∷ []
 outcome_words Paused = codes "paused" ∷ []

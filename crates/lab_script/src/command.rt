@@ -25,6 +25,10 @@ pub enum Action {
     Put {
         item: Item,
     },
+    /// It puts in an item, the last one of its direction.
+    PutLast {
+        item: Item,
+    },
     /// It pulls.
     Pull,
     /// It looks at its timer.
@@ -60,6 +64,7 @@ impl Action {
     {
         match self {
             Action::Put { .. } => Verb::Put,
+            Action::PutLast { .. } => Verb::Last,
             Action::Pull => Verb::Pull,
             Action::Tick => Verb::Tick,
             Action::Close => Verb::Close,

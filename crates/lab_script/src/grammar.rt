@@ -5,7 +5,7 @@ ghost use Rattle.chan_values.specs.declared.side.Side.{Side};
 ghost use Rattle.lab_script.specs.declared.command.Action.{Action};
 ghost use Rattle.lab_script.specs.declared.verb.Verb.TheVariants as verbs;
 ghost use Rattle.lab_script.specs.Command.{IsAction, IsScriptLine, Says, operands_of, verb_of};
-ghost use Rattle.lab_script.specs.Grammar.{BeginsWith, IsNoAction, IsNoCommand, TakesAction};
+ghost use Rattle.lab_script.specs.Grammar.{BeginsWith, IsNoAction, IsNoCommand, IsNoItem, TakesAction, TakesItem};
 ghost use Rattle.lab_script.specs.Verb.{verb_text};
 ghost use Rattle.lab_script.specs.Words.{side_text};
 
@@ -86,6 +86,7 @@ fn read_action(alloc: Global, verb: Verb, words: &mut Words) -> Result<Option<Ac
 {
     match verb {
         Verb::Put => read_put(alloc, words),
+        Verb::Last => read_put_last(alloc, words),
         Verb::Pull => Ok(Some(Action::Pull)),
         Verb::Tick => Ok(Some(Action::Tick)),
         Verb::Close => Ok(Some(Action::Close)),
@@ -104,6 +105,27 @@ fn read_put(alloc: Global, words: &mut Words) -> Result<Option<Action>, NoMemory
     ensures { IfOk result (λ read. MatchOption read
         (IsNoAction verbs.Put words.old) (TakesAction verbs.Put words.old words.new)) }
 {
+    match read_item(alloc, words)? {
+        Some(item) => Ok(Some(Action::Put { item })),
+        None => Ok(None),
+    }
+}
+
+fn read_put_last(alloc: Global, words: &mut Words) -> Result<Option<Action>, NoMemory>
+    ensures { IfOk result (λ read. MatchOption read
+        (IsNoAction verbs.Last words.old) (TakesAction verbs.Last words.old words.new)) }
+{
+    match read_item(alloc, words)? {
+        Some(item) => Ok(Some(Action::PutLast { item })),
+        None => Ok(None),
+    }
+}
+
+/// The type and the payload of an item.
+fn read_item(alloc: Global, words: &mut Words) -> Result<Option<Item>, NoMemory>
+    ensures { IfOk result (λ read.
+        MatchOption read (IsNoItem words.old) (TakesItem words.old words.new)) }
+{
     let Some(word) = words.next_word() else {
         return Ok(None);
     };
@@ -116,8 +138,7 @@ fn read_put(alloc: Global, words: &mut Words) -> Result<Option<Action>, NoMemory
     let Some(payload) = read_payload(alloc, word)? else {
         return Ok(None);
     };
-    let item = Item { ptype, payload };
-    Ok(Some(Action::Put { item }))
+    Ok(Some(Item { ptype, payload }))
 }
 
 fn read_hear(words: &mut Words) -> Option<Action>

@@ -11,6 +11,8 @@ pub enum Outcome {
     Full,
     /// The end is closed.
     Closed,
+    /// The last item of the direction was put before.
+    Past,
     /// No sequence number is left.
     Spent,
     /// The end emitted a message: the emission's number, and the whole encoding.
@@ -19,10 +21,14 @@ pub enum Outcome {
     Idle,
     /// These items are in order now.
     Released(Items),
+    /// These items are in order now, and they end with the last one of the direction.
+    Finished(Items),
     /// The message was taken before.
     Late,
     /// The message is outside the receive window.
     Beyond,
+    /// The message does not fit the end of its direction, by the message of this number.
+    PastEnd(u64),
     /// The message of this number is acknowledged.
     Acked(u64),
     /// An acknowledgement of a number that was not sent or is acknowledged.

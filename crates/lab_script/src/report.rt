@@ -70,12 +70,15 @@ fn push_outcome(out: &mut Vec<u8>, outcome: &Outcome) -> Result<(), NoMemory>
         Outcome::Seq(n) => push_counted(out, "seq", *n),
         Outcome::Full => push_word(out, "full"),
         Outcome::Closed => push_word(out, "closed"),
+        Outcome::Past => push_word(out, "past"),
         Outcome::Spent => push_word(out, "spent"),
         Outcome::Emit { number, encoding } => push_emit(out, *number, encoding.as_slice()),
         Outcome::Idle => push_word(out, "idle"),
-        Outcome::Released(items) => push_released(out, items.as_slice()),
+        Outcome::Released(items) => push_in_order(out, "released", items.as_slice()),
+        Outcome::Finished(items) => push_in_order(out, "finished", items.as_slice()),
         Outcome::Late => push_word(out, "late"),
         Outcome::Beyond => push_word(out, "beyond"),
+        Outcome::PastEnd(n) => push_counted(out, "past-end", *n),
         Outcome::Acked(n) => push_counted(out, "acked", *n),
         Outcome::UnknownAck(n) => push_counted(out, "unknown-ack", *n),
         Outcome::Paused => push_word(out, "paused"),
@@ -103,13 +106,13 @@ fn push_emit(out: &mut Vec<u8>, number: u64, encoding: &[u8]) -> Result<(), NoMe
     push_bytes(out, encoding)
 }
 
-// `released`, how many items there are, and the items.
-fn push_released(out: &mut Vec<u8>, items: &[Item]) -> Result<(), NoMemory>
+// A word, how many items there are, and the items.
+fn push_in_order(out: &mut Vec<u8>, word: &str, items: &[Item]) -> Result<(), NoMemory>
     ensures ok { OnOk result (out.new.items ≡ out.old.items
-        ++ spaced (codes "released" ∷ decimal (length items.now) ∷ map item_text items.now)) }
+        ++ spaced (word.now ∷ decimal (length items.now) ∷ map item_text items.now)) }
     ensures err { OnErr result (Keeps out.old.items out.new.items) }
 {
-    push_counted(out, "released", items.len() as u64)?;
+    push_counted(out, word, items.len() as u64)?;
     push_items(out, items)
 }
 

@@ -26,6 +26,9 @@ fn lines_out_of_the_grammar_say_nothing(rt: HostRuntime) -> Result<(), Fail> {
         "put P 1 ",
         "put P 1 --",
         "put P 1 61 62",
+        "last P",
+        "last P 1",
+        "last P 1 6A",
         "pull",
         "pull P ",
         "pull p",
@@ -58,6 +61,7 @@ fn lines_out_of_the_grammar_say_nothing(rt: HostRuntime) -> Result<(), Fail> {
 fn lines_of_one_end_say_their_verb(rt: HostRuntime) -> Result<(), Fail> {
     let lines = [
         ("put A 4294967295 00ff", Side::Agent, Verb::Put),
+        ("last P 12 -", Side::Plugin, Verb::Last),
         ("pull P", Side::Plugin, Verb::Pull),
         ("tick A", Side::Agent, Verb::Tick),
         ("close P", Side::Plugin, Verb::Close),
@@ -177,10 +181,12 @@ fn a_report_has_the_words_of_each_outcome(rt: HostRuntime) -> Result<(), Fail> {
         Outcome::Seq(0),
         Outcome::Full,
         Outcome::Closed,
+        Outcome::Past,
         Outcome::Spent,
         Outcome::Idle,
         Outcome::Late,
         Outcome::Beyond,
+        Outcome::PastEnd(2),
         Outcome::Acked(10),
         Outcome::UnknownAck(18446744073709551615),
         Outcome::Paused,
@@ -199,9 +205,9 @@ fn a_report_has_the_words_of_each_outcome(rt: HostRuntime) -> Result<(), Fail> {
     for outcome in &outcomes {
         push_line(&mut out, 1, Verb::Hear, Some(Side::Agent), outcome)?;
     }
-    let report = b"1 hear A seq 0\n1 hear A full\n1 hear A closed\n1 hear A spent\n\
-1 hear A idle\n1 hear A late\n1 hear A beyond\n1 hear A acked 10\n\
-1 hear A unknown-ack 18446744073709551615\n1 hear A paused\n1 hear A started\n\
+    let report = b"1 hear A seq 0\n1 hear A full\n1 hear A closed\n1 hear A past\n\
+1 hear A spent\n1 hear A idle\n1 hear A late\n1 hear A beyond\n1 hear A past-end 2\n\
+1 hear A acked 10\n1 hear A unknown-ack 18446744073709551615\n1 hear A paused\n1 hear A started\n\
 1 hear A ended\n1 hear A after-close\n1 hear A absent\n1 hear A refused 7\n\
 1 hear A passed\n1 hear A nothing\n1 hear A due 3\n1 hear A gave-up 3\n1 hear A\n";
     assert_eq!(rt; out.as_slice(), report.as_slice());

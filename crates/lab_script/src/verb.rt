@@ -11,6 +11,8 @@ pub enum Verb {
     At,
     /// An end puts an item.
     Put,
+    /// An end puts an item as the last of its direction.
+    Last,
     /// An end pulls.
     Pull,
     /// An end ticks.
@@ -44,6 +46,7 @@ impl Verb {
         match word {
             b"at" => Some(Verb::At),
             b"put" => Some(Verb::Put),
+            b"last" => Some(Verb::Last),
             b"pull" => Some(Verb::Pull),
             b"tick" => Some(Verb::Tick),
             b"close" => Some(Verb::Close),
@@ -66,6 +69,7 @@ impl Verb {
         match self {
             Verb::At => "at",
             Verb::Put => "put",
+            Verb::Last => "last",
             Verb::Pull => "pull",
             Verb::Tick => "tick",
             Verb::Close => "close",

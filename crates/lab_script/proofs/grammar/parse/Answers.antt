@@ -1,6 +1,4 @@
 use Rattle.std.proofs.Common.{◌≡◌, [], sym, ◌∙◌, append-nil}
-use Rattle.lab_script.specs.Command.{words_of}
-use Rattle.lab_script.specs.Grammar.{BeginsWith}
 use Rattle.lab_script.proofs.Spelling.{Says-from_words, nothing_left, words-from_Says}
 use Rattle.lab_script.proofs.grammar.parse.Goals as goal
 
