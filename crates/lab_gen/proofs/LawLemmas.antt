@@ -61,12 +61,14 @@ heard_stays w h now out =
         (EndCall.Heard now (incoming_of out))
         ≡ false
     at (Outgoing.Stream m) =
-        stream_cases w h m.seq m.item
+        stream_cases w h m.seq m.item m.last
         (λ heard. closes (EndAnswer.Heard heard) (EndCall.Heard now (incoming_of (Outgoing.Stream m)))
         ≡ false)
         (λ there. refl)
         (λ far. refl)
-        (λ absent near. refl)
+        (λ end new past. refl)
+        (λ new so. refl)
+        (λ new so. refl)
     at (Outgoing.Ack n id date) =
         ack_cases h n
         (λ heard. closes (EndAnswer.Heard heard)
@@ -95,6 +97,7 @@ step_stays : (w : ℕ) (world : List Event) (now line : ℕ) (side : Side) (acti
     → IsGenerated action
     → Stays (step_of w world now line side action)
 step_stays w world now line side (Action.Put item) asked = inl refl
+step_stays w world now line side (Action.PutLast item) asked = absurd asked
 step_stays w world now line side Action.Pull asked = inl refl
 step_stays w world now line side Action.Tick asked =
     tick_stays now (answer_to_tick (history_of side world) now)

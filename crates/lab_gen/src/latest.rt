@@ -90,8 +90,12 @@ impl Latest {
             },
             Action::Lost => Ok(calls::disconnect(&mut self.end)),
             Action::Open => Ok(calls::connect(&mut self.end, now)),
-            Action::Close | Action::Hurt { .. } | Action::Pause | Action::Start | Action::End =>
-                unreachable!(),
+            Action::PutLast { .. }
+            | Action::Close
+            | Action::Hurt { .. }
+            | Action::Pause
+            | Action::Start
+            | Action::End => unreachable!(),
         }
     }
 

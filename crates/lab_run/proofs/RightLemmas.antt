@@ -50,6 +50,8 @@ pub IsRight-step : (w : ℕ) (world : List Event) (now line : ℕ) (side : Side)
     → IsRight w (world ++ events_of (step_of w world now line side action ∷ []))
 IsRight-step w world now line side (Action.Put item) r =
     IsRight-push w world side (EndCall.Put item (id_of line) now) r tt
+IsRight-step w world now line side (Action.PutLast item) r =
+    IsRight-push w world side (EndCall.PutLast item (id_of line) now) r tt
 IsRight-step w world now line side Action.Pull r =
     IsRight-push w world side (EndCall.Pull now) r tt
 IsRight-step w world now line side Action.Tick r =

@@ -89,6 +89,9 @@ fit-step : (w : ℕ) (world : List Event) (now line : ℕ) (side : Side) (action
 fit-step w world now line side (Action.Put item) good small ranges =
     fit-push world (event_of w world side (EndCall.Put item (id_of line) now)) good.fit
     (ranges.1.1, (small, refl, ranges.0))
+fit-step w world now line side (Action.PutLast item) good small ranges =
+    fit-push world (event_of w world side (EndCall.PutLast item (id_of line) now)) good.fit
+    (ranges.1.1, (small, refl, ranges.0))
 fit-step w world now line side Action.Pull good small ranges =
     fit-push world (event_of w world side (EndCall.Pull now)) good.fit (tt, small)
 fit-step w world now line side Action.Tick good small ranges =

@@ -47,11 +47,14 @@ heard_is_kept w h incoming =
     (λ unclosed. at incoming)
   where
     at : (incoming : Incoming) → answer_to_incoming w h incoming ≢ Heard.NoMemory incoming
-    at (Incoming.Stream n id item) =
-        stream_cases w h n item (λ heard. heard ≢ Heard.NoMemory (Incoming.Stream n id item))
+    at (Incoming.Stream n id item last) =
+        stream_cases w h n item last
+        (λ heard. heard ≢ Heard.NoMemory (Incoming.Stream n id item last))
         (λ there is. cc)
         (λ far is. cc)
-        (λ absent near is. cc)
+        (λ m new past is. cc)
+        (λ new so is. cc)
+        (λ new so is. cc)
     at (Incoming.Ack n) =
         ack_cases h n (λ heard. heard ≢ Heard.NoMemory (Incoming.Ack n))
         (λ emitted before is. cc)

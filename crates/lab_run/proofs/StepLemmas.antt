@@ -47,13 +47,16 @@ due_answer w h call answer answered memory =
 put_emits : (answer : Put) → encodings_in (outcome_of_put answer) ≡ []
 put_emits (Put.Seq n) = refl
 put_emits (Put.Closed item) = refl
+put_emits (Put.Past item) = refl
 put_emits (Put.Spent item) = refl
 put_emits (Put.Full item) = refl
 
 heard_emits : (answer : Heard) → encodings_in (outcome_of_heard answer) ≡ []
 heard_emits (Heard.Released items) = refl
+heard_emits (Heard.Finished items) = refl
 heard_emits Heard.Late = refl
 heard_emits Heard.Beyond = refl
+heard_emits (Heard.PastEnd n) = refl
 heard_emits (Heard.Acked n) = refl
 heard_emits (Heard.UnknownAck n) = refl
 heard_emits Heard.Paused = refl

@@ -1,5 +1,5 @@
 -- What an end emits fits its fields, where the arguments of its calls did.
-use Rattle.std.proofs.Common.{◌≡◌, ◌==◌, ℕ, ◌^◌, ◌<◌, max, List, [], ◌∷◌, ◌++◌, length, subst, arith, refl}
+use Rattle.std.proofs.Common.{◌≡◌, ◌==◌, ℕ, ◌+◌, ◌^◌, ◌<◌, max, Bool, true, false, cond, List, [], ◌∷◌, ◌++◌, length, subst, arith, refl}
 use Rattle.std.specs.Prelude.{FitsSigned, pos}
 use Rattle.std.specs.Int.{w64}
 use Rattle.std.specs.List.{All, cons_option}
@@ -24,13 +24,15 @@ use Rattle.channel_core.specs.Legal.{IsAnswered, IsLegal}
 use Rattle.channel_core.specs.Wire.{data_name, message_of, stream_flags}
 use Rattle.channel_core.proofs.EncodableLemmas.{emissions_can_be_encoded}
 use Rattle.channel_core.proofs.HistoryLemmas.{by_pushes, emissions-push, owed_acks-push, put_messages-push}
-use Rattle.channel_core.proofs.LegalLemmas.{All-pushed, IsLegal-pushed, by_cases}
+use Rattle.channel_core.proofs.CaseLemmas.{by_cases}
+use Rattle.channel_core.proofs.LegalLemmas.{All-pushed, IsLegal-pushed}
 use Rattle.lab_run.specs.Ends.{IsSendable}
 
 -- the arguments of a call fit the fields of a message
 abbrev pub IsTyped : EndCall → Type 0
 IsTyped (EndCall.Put item id now) = (now < 2 ^ 64) × (length id ≡ 16) × (item.ptype < 2 ^ 32)
-IsTyped (EndCall.Heard now (Incoming.Stream n id item)) = length id ≡ 16
+IsTyped (EndCall.PutLast item id now) = (now < 2 ^ 64) × (length id ≡ 16) × (item.ptype < 2 ^ 32)
+IsTyped (EndCall.Heard now (Incoming.Stream n id item last)) = length id ≡ 16
 IsTyped (EndCall.Pull now) = now < 2 ^ 64
 IsTyped call = Unit {0}
 
@@ -82,6 +84,34 @@ FitAfter w h call answer =
     (owed_after w (owed_acks w h) answer call)
     (emissions h ++ cons_option (message_emitted answer) [])
 
+-- a message is put
+put : (w : ℕ) (h : List Entry) (item : Item) (id : List ℕ) (now : ℕ) (last : Bool)
+    → AllFit (put_messages h) (owed_acks w h) (emissions h)
+    → (now < 2 ^ 64) × (length id ≡ 16) × (item.ptype < 2 ^ 32)
+    → AllFit
+    (put_messages h ++ record { item = item; id = id; date = max now 1; last = last } ∷ [])
+    (owed_acks w h)
+    (emissions h ++ [])
+put w h item id now last fit typed =
+    record {
+      messages = All-push PutFits (put_messages h) _ fit.messages
+          (omega (arith, typed.0), typed.1, typed.2);
+      acks = fit.acks;
+      emitted = rw append-nil fit.emitted;
+    }
+
+-- a message that was heard is owed
+owe : (w : ℕ) (h : List Entry) (n : ℕ) (id : List ℕ)
+    → AllFit (put_messages h) (owed_acks w h) (emissions h)
+    → length id ≡ 16
+    → AllFit (put_messages h ++ []) (owed_with w (owed_acks w h) n id) (emissions h ++ [])
+owe w h n id fit typed =
+    same _ _ _ (record {
+      messages = fit.messages;
+      acks = owed-fits w (owed_acks w h) n id typed fit.acks;
+      emitted = fit.emitted;
+    })
+
 step : (w : ℕ) (h : List Entry) (call : EndCall) (answer : EndAnswer)
     → AllFit (put_messages h) (owed_acks w h) (emissions h)
     → IsAnswered w h call answer
@@ -93,26 +123,11 @@ step w h call answer fit answered =
     (record {
       quiet = λ call answer quiet _.
           rw (quiet.put, quiet.emitted, quiet.owed w (owed_acks w h)) (same _ _ _ fit);
-      seq = λ item id now _ typed.
-          let m : PutMessage = record { item = item; id = id; date = max now 1 } in
-          record {
-            messages = All-push PutFits (put_messages h) m fit.messages
-                (omega (arith, typed.0), typed.1, typed.2);
-            acks = fit.acks;
-            emitted = rw append-nil fit.emitted;
-          };
-      late = λ now n id item _ typed.
-          same _ _ _ (record {
-            messages = fit.messages;
-            acks = owed-fits w (owed_acks w h) n id typed fit.acks;
-            emitted = fit.emitted;
-          });
-      released = λ now n id item _ _ typed.
-          same _ _ _ (record {
-            messages = fit.messages;
-            acks = owed-fits w (owed_acks w h) n id typed fit.acks;
-            emitted = fit.emitted;
-          });
+      seq = λ item id now _ typed. put w h item id now false fit typed;
+      seq_last = λ item id now _ typed. put w h item id now true fit typed;
+      late = λ now n id item last _ typed. owe w h n id fit typed;
+      released = λ now n id item last _ _ typed. owe w h n id fit typed;
+      finished = λ now n id item last _ _ typed. owe w h n id fit typed;
       acked = λ now n _ _ _. same _ _ _ fit;
       emit_ack = λ now p owed is typed.
           let acks : All OwedFits (p ∷ owed) = subst (All OwedFits) is fit.acks in
@@ -157,8 +172,11 @@ fit_after w =
     (step w h e.call e.answer (before was.0 may.0) was.1 may.1))
 
 -- the flags of a stream message fit
-flags-fit : (n : ℕ) → stream_flags n < 2 ^ 64
-flags-fit n = cond_both (n == 0) 1 0 (λ f. f < 2 ^ 64) (λ _. omega arith) (λ _. omega arith)
+flags-fit : (n : ℕ) (last : Bool) → stream_flags n last < 2 ^ 64
+flags-fit n last =
+    cond_both (n == 0) 1 0 (λ syn. syn + cond last 2 0 < 2 ^ 64)
+    (λ _. cond_both last 2 0 (λ fin. 1 + fin < 2 ^ 64) (λ _. omega arith) (λ _. omega arith))
+    (λ _. cond_both last 2 0 (λ fin. 0 + fin < 2 ^ 64) (λ _. omega arith) (λ _. omega arith))
 
 -- so does its number
 fits-pos : (n : ℕ) → n < 2 ^ 63 → FitsSigned w64 (pos n)
@@ -179,7 +197,7 @@ IsSendable-fits side (Outgoing.Stream m) can fits = (
     schema = omega arith;
     date = fits.0;
     seq = fits-pos m.seq can.0;
-    flags = flags-fit m.seq;
+    flags = flags-fit m.seq m.last;
     id = fits.1;
     ptype = fits.2;
   },

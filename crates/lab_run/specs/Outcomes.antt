@@ -9,18 +9,21 @@ use Rattle.channel_core.specs.declared.answer.Tick.{Tick}
 use Rattle.channel_core.specs.Wire.{encoding}
 use Rattle.lab_script.specs.declared.outcome.Outcome.{Outcome}
 
--- what a put reports
+-- what a put reports, as the last or not
 abbrev pub outcome_of_put : Put → Outcome
 outcome_of_put (Put.Seq n) = Outcome.Seq n
 outcome_of_put (Put.Closed item) = Outcome.Closed
+outcome_of_put (Put.Past item) = Outcome.Past
 outcome_of_put (Put.Spent item) = Outcome.Spent
 outcome_of_put (Put.Full item) = Outcome.Full
 
 -- what is reported of a message that was heard
 abbrev pub outcome_of_heard : Heard → Outcome
 outcome_of_heard (Heard.Released items) = Outcome.Released items
+outcome_of_heard (Heard.Finished items) = Outcome.Finished items
 outcome_of_heard Heard.Late = Outcome.Late
 outcome_of_heard Heard.Beyond = Outcome.Beyond
+outcome_of_heard (Heard.PastEnd n) = Outcome.PastEnd n
 outcome_of_heard (Heard.Acked n) = Outcome.Acked n
 outcome_of_heard (Heard.UnknownAck n) = Outcome.UnknownAck n
 outcome_of_heard Heard.Paused = Outcome.Paused

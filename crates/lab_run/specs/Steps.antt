@@ -87,6 +87,8 @@ hurt_at line side place emission =
 abbrev pub step_of : ℕ → List Event → ℕ → ℕ → Side → Action → Step
 step_of w world now line side (Action.Put item) =
     called w world line Verb.Put side (EndCall.Put item (id_of line) now)
+step_of w world now line side (Action.PutLast item) =
+    called w world line Verb.Last side (EndCall.PutLast item (id_of line) now)
 step_of w world now line side Action.Pull = called w world line Verb.Pull side (EndCall.Pull now)
 step_of w world now line side Action.Tick = called w world line Verb.Tick side (EndCall.Tick now)
 step_of w world now line side Action.Close = called w world line Verb.Close side EndCall.Close

@@ -13,10 +13,10 @@ ghost use Rattle.channel_core.specs.Wire.{encoding};
 ghost use Rattle.lab_run.specs.Ends.{IsCalled, IsSendable};
 ghost use Rattle.lab_run.specs.Steps.{id_of};
 
-use crate::outcome::{outcome_of_heard, outcome_of_refusal};
+use crate::outcome::{outcome_of_heard, outcome_of_put, outcome_of_refusal};
 use chan_values::{Bytes, Item, NoMemory, Side, Text};
 use channel_core::wire::{incoming, outgoing};
-use channel_core::{End, Incoming, Pull, Put, Tick};
+use channel_core::{End, Incoming, Pull, Tick};
 use lab_script::Outcome;
 use std::alloc::Global;
 
@@ -26,12 +26,16 @@ pub fn put(end: &mut End, item: Item, line: u64, now: u64) -> Outcome
     ensures { (side : Side) (k : ℕ) →
         IsCalled side k (EndCall.Put item (id_of line) now) end.old end.new result }
 {
-    match end.put(item, id_of(line), now) {
-        Put::Seq(seq) => Outcome::Seq(seq),
-        Put::Closed(_) => Outcome::Closed,
-        Put::Spent(_) => Outcome::Spent,
-        Put::Full(_) => Outcome::Full,
-    }
+    outcome_of_put(end.put(item, id_of(line), now))
+}
+
+/// Puts in an item as the last of its direction, with the MessageId of the line.
+pub fn put_last(end: &mut End, item: Item, line: u64, now: u64) -> Outcome
+    requires { length item.payload ≤ max_payload }
+    ensures { (side : Side) (k : ℕ) →
+        IsCalled side k (EndCall.PutLast item (id_of line) now) end.old end.new result }
+{
+    outcome_of_put(end.put_last(item, id_of(line), now))
 }
 
 /// The MessageId of what a line puts in.

@@ -73,6 +73,7 @@ impl Endpoint {
         let now = context.moment;
         match action {
             Action::Put { item } => Ok(calls::put(&mut self.end, item, context.line, now)),
+            Action::PutLast { item } => Ok(calls::put_last(&mut self.end, item, context.line, now)),
             Action::Pull => {
                 let number = self.sent.len() as u64;
                 calls::pull(alloc, side, &mut self.end, number, now)

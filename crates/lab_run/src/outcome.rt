@@ -4,12 +4,25 @@ ghost use Rattle.std.specs.Prelude.{◌≡◌, ◌≢◌, IfOk};
 ghost use Rattle.channel_core.specs.declared.message.Incoming.{Incoming};
 ghost use Rattle.channel_core.specs.declared.answer.Heard.TheVariants as Heard;
 ghost use Rattle.lab_run.specs.Damage.{outcome_of_refusal};
-ghost use Rattle.lab_run.specs.Outcomes.{is_emission, outcome_of_heard};
+ghost use Rattle.lab_run.specs.Outcomes.{is_emission, outcome_of_heard, outcome_of_put};
 
 use chan_values::NoMemory;
-use channel_core::Heard;
 use channel_core::wire::InRefusal;
+use channel_core::{Heard, Put};
 use lab_script::Outcome;
+
+/// What is reported of a put.
+pub fn outcome_of_put(put: Put) -> Outcome
+    ensures { result ≡ outcome_of_put put }
+{
+    match put {
+        Put::Seq(seq) => Outcome::Seq(seq),
+        Put::Closed(_) => Outcome::Closed,
+        Put::Past(_) => Outcome::Past,
+        Put::Spent(_) => Outcome::Spent,
+        Put::Full(_) => Outcome::Full,
+    }
+}
 
 /// What is reported of a message that was heard.
 pub fn outcome_of_heard(heard: Heard) -> Result<Outcome, NoMemory>
@@ -18,8 +31,10 @@ pub fn outcome_of_heard(heard: Heard) -> Result<Outcome, NoMemory>
 {
     match heard {
         Heard::Released(items) => Ok(Outcome::Released(items)),
+        Heard::Finished(items) => Ok(Outcome::Finished(items)),
         Heard::Late => Ok(Outcome::Late),
         Heard::Beyond => Ok(Outcome::Beyond),
+        Heard::PastEnd(seq) => Ok(Outcome::PastEnd(seq)),
         Heard::Acked(seq) => Ok(Outcome::Acked(seq)),
         Heard::UnknownAck(seq) => Ok(Outcome::UnknownAck(seq)),
         Heard::Paused => Ok(Outcome::Paused),

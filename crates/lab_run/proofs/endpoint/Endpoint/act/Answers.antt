@@ -40,6 +40,13 @@ returns-in-Put c w world legal here there =
     (EndCall.Put c.in-Put.item (id_of c.args.context.now.line) c.args.context.now.moment)
     c.args.self.now _ (Ok c.put.result) legal here (c.put.ensures _ _))
 
+pub returns-in-PutLast : goal.returns-in-PutLast
+returns-in-PutLast c w world legal here there =
+    rw c.in-PutLast.is
+    (made w world c.args.context.now verbs.Last
+    (EndCall.PutLast c.in-PutLast.item (id_of c.args.context.now.line) c.args.context.now.moment)
+    c.args.self.now _ (Ok c.put_last.result) legal here (c.put_last.ensures _ _))
+
 pub returns-in-Tick : goal.returns-in-Tick
 returns-in-Tick c w world legal here there =
     rw c.in-Tick.is
