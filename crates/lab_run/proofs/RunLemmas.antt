@@ -22,6 +22,7 @@ use Rattle.lab_script.specs.declared.outcome.Outcome.{Outcome}
 use Rattle.lab_script.specs.Command.{verb_of}
 use Rattle.lab_script.specs.declared.word.Which.{Which}
 use Rattle.channel_core.proofs.DeliveryLemmas.{each_number_is_taken_once, released_is_prefix}
+use Rattle.channel_core.proofs.WholeLemmas.{finished_is_whole}
 use Rattle.channel_core.proofs.ExchangeLemmas.{exchange_releases_all}
 use Rattle.lab_run.specs.declared.pair.Pair.{Pair}
 use Rattle.lab_run.specs.declared.stop.Stop.{Stop}
@@ -143,7 +144,8 @@ run-push w commands command now line at number =
     (line-progress w commands ∙ sym number)
 
 -- the world of a script is legal and honest, each number is taken once there, what was released is a
--- prefix of what was put in, and a script that goes on has the same beginning
+-- prefix of what was put in, the whole where its last item was released, and a script that goes on has
+-- the same beginning
 pub run_is_faithful : (w : ℕ) (commands : List Command) → IsFaithful w commands
 run_is_faithful w commands =
     let r = IsRight-run w commands in
@@ -153,6 +155,7 @@ run_is_faithful w commands =
       once = λ side. each_number_is_taken_once w (history_of side (world_of (run w commands)))
           (r.legal side);
       prefix = λ side. released_is_prefix w (world_of (run w commands)) side r.legal r.honest;
+      whole = λ side. finished_is_whole w (world_of (run w commands)) side r.legal r.honest;
       begins = λ rest. let more = run-front w commands rest in (more.0, sym more.1);
     }
 

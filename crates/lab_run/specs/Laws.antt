@@ -1,12 +1,12 @@
 -- What holds of the world and the report of every script.
-use Rattle.std.specs.Prelude.{◌≡◌, ◌≢◌, ℕ, ◌+◌, ◌*◌, ◌<◌, ◌≤◌, false, Some, List, [], ◌∷◌, ◌++◌, length}
+use Rattle.std.specs.Prelude.{◌≡◌, ◌≢◌, ◌↔◌, ℕ, ◌+◌, ◌*◌, ◌<◌, ◌≤◌, true, false, Some, List, [], ◌∷◌, ◌++◌, length}
 use Rattle.std.specs.List.{All, AllPairs}
 use Rattle.chan_values.specs.declared.side.Side.{Side}
 use Rattle.chan_values.specs.Sides.{other}
 use Rattle.channel_core.specs.Arrival.{Answer, Arrives}
 use Rattle.channel_core.specs.declared.message.Outgoing.{Outgoing}
 use Rattle.channel_core.specs.Exchange.{IsExchange}
-use Rattle.channel_core.specs.History.{is_closed, put_items, released_items, taken_items}
+use Rattle.channel_core.specs.History.{finished_count, has_ended, is_closed, put_items, released_items, taken_items}
 use Rattle.channel_core.specs.Laws.{IsPrefixOf}
 use Rattle.channel_core.specs.Wire.{encoding, message_of}
 use Rattle.channel_core.specs.World.{IsHonest, IsLegalWorld, history_of}
@@ -18,7 +18,8 @@ use Rattle.lab_run.specs.Run.{run}
 use Rattle.lab_run.specs.Steps.{events_of, settle_lines, steps_at, steps_of, world_of}
 
 -- after these lines each end answered as it should, heard only what the other had emitted and took each
--- number at most once, and what it released is a prefix of what the other end's user put in
+-- number at most once, and what it released is a prefix of what the other end's user put in: all of it
+-- where the last item was released
 pub record IsFaithful (w : ℕ) (commands : List Command) : Type 0 where
   pub legal : IsLegalWorld w (world_of (run w commands))
   pub honest : IsHonest (world_of (run w commands))
@@ -30,6 +31,14 @@ pub record IsFaithful (w : ℕ) (commands : List Command) : Type 0 where
       (side : Side)
       → IsPrefixOf (released_items (history_of side world))
       (put_items (history_of (other side) world))
+  -- an end has answered that the last item is released exactly where the other was given its last item,
+  -- and all that was put in there is released
+  pub whole :
+      let world = world_of (run w commands) in
+      (side : Side)
+      → (finished_count (history_of side world) ≡ 1)
+      ↔ ((has_ended (history_of (other side) world) ≡ true)
+      × (released_items (history_of side world) ≡ put_items (history_of (other side) world)))
   -- a script that goes on behind these lines begins with their steps
   pub begins : (rest : List Command) → IsPrefixOf (run w commands) (run w (commands ++ rest))
 

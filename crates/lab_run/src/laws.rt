@@ -5,7 +5,8 @@
 ghost use Rattle.lab_run.specs.Laws.{EveryEmissionIsSendable, EveryScriptIsFaithful, EverySettleExchangesAll, HurtTellsIncoming, ScriptLaws};
 
 /// The world of every script is legal and honest, each end takes each number once in it, and what an
-/// end released is a prefix of what the other end's user put in.
+/// end released is a prefix of what the other end's user put in, and all of it where that user put in a
+/// last item and the end told that it was released.
 pub fn every_script_is_faithful()
     ensures { EveryScriptIsFaithful }
 {}
