@@ -150,12 +150,11 @@ emission_sent w s call answer room answered =
       finished = λ now n id item last new so. tt;
       acked = λ now n out before. tt;
       emit_ack = λ now p owed is. tt;
-      emit_stream = λ now n m below eligible is.
-          (
-            slice_get-map (λ (x : PutMessage). x.item) (put_messages s) n ∙ rw is refl,
-            omega arith,
-            slice_get-map (λ (x : PutMessage). x.last) (put_messages s) n ∙ rw is refl,
-          );
+      emit_stream = λ now n m below eligible is. (
+        slice_get-map (λ (x : PutMessage). x.item) (put_messages s) n ∙ rw is refl,
+        omega arith,
+        slice_get-map (λ (x : PutMessage). x.last) (put_messages s) n ∙ rw is refl,
+      );
     }) call answer answered
 
 -- what a call hears is among these emissions, unless it wants for memory

@@ -177,12 +177,15 @@ pub heard_again : (side : Side) (bytes : List ℕ) (m : Message) (result : Answe
     → AnswerOrNoMemory result (Ok (incoming_of out))
 heard_again side bytes m result small heard written (Outgoing.Stream sent) can fits spelled is =
     heard.only (Ok (Incoming.Stream sent.seq sent.id sent.item sent.last))
-    (inl (ap (λ x. x.name) is, (
-      ap (λ x. x.seq) is,
-      ap (λ x. x.id) is,
-      ap item_of is,
-      ap (λ x. has_fin x.flags) is ∙ has_fin-flags (eqb sent.seq 0) sent.last,
-    )))
+    (inl (
+      ap (λ x. x.name) is,
+      (
+        ap (λ x. x.seq) is,
+        ap (λ x. x.id) is,
+        ap item_of is,
+        ap (λ x. has_fin x.flags) is ∙ has_fin-flags (eqb sent.seq 0) sent.last,
+      ),
+    ))
 heard_again side bytes m result small heard written (Outgoing.Ack seq id date) can fits spelled is =
     written seq id date can.0 fits.id
     (id_bytes (ack_message (other side) seq id date) fits.id

@@ -104,8 +104,7 @@ taken_stays w h n item last finished ended new so =
     let before : is_below (last_of taken) (least_absent (seqs_of taken)) ≡ false
     = unreleased (last_of taken) (still_open taken m within absent) in
     let none : finished_count h ≡ 0
-    = ended.finished ∙ ap (λ (b : Bool). cond b 1 0) before in
-    (
+    = ended.finished ∙ ap (λ (b : Bool). cond b 1 0) before in (
       EndsTopmost-push taken m ended.topmost within,
       ap (λ (k : ℕ). k + cond finished 1 0) none ∙ zero_plus finished
           ∙ ap (λ (b : Bool). cond b 1 0) ends,

@@ -41,8 +41,7 @@ module _ (w : ℕ) (h : List Entry) (old : EndState) (n : ℕ) where
         (sym (taken_is legal s untaken m least.0) ∙ least.1)
         (λ k over under. sym (taken_is legal s untaken k over) ∙ least.2 k over under),
     λ is.
-        let known = least_above-some (numbers_of (taken_items h)) n m is in
-        (
+        let known = least_above-some (numbers_of (taken_items h)) n m is in (
           known.0,
           taken_is legal s untaken m known.0 ∙ known.1,
           λ k over under. taken_is legal s untaken k over ∙ known.2 k over under,

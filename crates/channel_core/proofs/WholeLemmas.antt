@@ -96,8 +96,7 @@ whole_after w s r agree sound released =
     let below = ltb-true found.0 (least_absent (seqs_of (taken_messages r))) test in
     let next = next-is r in
     let lasts = length-map (put_messages s) (λ (p : PutMessage). p.last) in
-    let items = length-map (put_messages s) (λ (p : PutMessage). p.item) in
-    (
+    let items = length-map (put_messages s) (λ (p : PutMessage). p.item) in (
       some_ended (put_messages s) t.seq is_last,
       released_items-front w s r agree sound
           ∙ take-whole (put_items s) (next_in_order r) (omega arith),
@@ -144,8 +143,7 @@ finished_is_whole w world end legal honest =
     let ends = agree_from w world end legal honest in
     let consistent = sound w r (legal end) in
     let over = ended w r (legal end) in
-    let test = is_below (last_of (taken_messages r)) (least_absent (seqs_of (taken_messages r))) in
-    (
+    let test = is_below (last_of (taken_messages r)) (least_absent (seqs_of (taken_messages r))) in (
       λ once. whole_after w s r ends consistent (counted test (sym over.finished ∙ once)),
       λ whole.
           over.finished

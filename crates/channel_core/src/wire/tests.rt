@@ -1,10 +1,11 @@
 ghost use Rattle.std.specs.Prelude.{◌≡◌, IfOk};
 
+mod bodies;
+
 use crate::wire::{InRefusal, incoming, outgoing};
 use crate::{Incoming, Outgoing};
 use agent_message::{Message, Name, encode};
 use chan_values::{Bytes, Item, NoMemory, Side};
-use json_bodies::{BodyFault, Member};
 use resend_queue::Sent;
 use std::alloc::Global;
 use std::test::Fail;
@@ -44,35 +45,115 @@ const ACK_BODY: &str = "{\"AcknowledgedMessageId\":\"abcdef01-2345-6789-fedc-ba9
     \"AcknowledgedMessageSequenceNumber\":5,\
     \"AcknowledgedMessageType\":\"output_stream_data\",\"IsSequentialMessage\":true}";
 
-/// What a body of an acknowledgement has before the number, and behind it.
-const ACK_FRONT: &str = "{\"AcknowledgedMessageId\":\"00000000-0000-0000-0000-000000000001\",\
-    \"AcknowledgedMessageSequenceNumber\":";
-
-const ACK_BACK: &str = ",\"AcknowledgedMessageType\":\"\",\"IsSequentialMessage\":true}";
-
 const CLOSED: &str = "{\"CreatedDate\":\"1\",\"DestinationId\":\"\",\
     \"MessageId\":\"00000000-0000-0000-0000-000000000009\",\"MessageType\":\"channel_closed\",\
     \"Output\":\"bye\",\"SchemaVersion\":1,\"SessionId\":\"s-1\"}";
 
-#[test]
-fn a_message_of_each_side_goes_out(rt: HostRuntime) -> Result<(), Fail> {
-    let first = Sent {
+/// A stream message of a side, and its bytes.
+#[derive(Clone, Copy)]
+struct Written<'a> {
+    side: Side,
+    seq: u32,
+    id: [u8; 16],
+    date: u32,
+    payload: &'a [u8],
+    last: bool,
+    bytes: &'a [u8],
+}
+
+/// Four stream messages: of both sides, and each as the last of its direction, by its flags, 3 and 2.
+fn four_messages<'a>(only: &'a [u8; 123], last: &'a [u8; 122]) -> [Written<'a>; 4] {
+    let first = Written {
+        side: Side::Plugin,
         seq: 0,
         id: ID,
         date: 1,
-        item: item(rt.alloc(), b"abc")?,
+        payload: b"abc".as_slice(),
+        last: false,
+        bytes: FIRST.as_slice(),
     };
-    let bytes = outgoing(rt.alloc(), Side::Plugin, &Outgoing::Stream(first))?;
-    assert_eq!(rt; bytes.as_slice(), FIRST.as_slice());
-    let second = Sent {
+    let second = Written {
+        side: Side::Agent,
         seq: 1,
         id: LETTERS,
         date: 7,
-        item: item(rt.alloc(), b"hi")?,
+        payload: b"hi".as_slice(),
+        last: false,
+        bytes: SECOND.as_slice(),
     };
-    let bytes = outgoing(rt.alloc(), Side::Agent, &Outgoing::Stream(second))?;
-    assert_eq!(rt; bytes.as_slice(), SECOND.as_slice());
+    let whole = Written {
+        last: true,
+        bytes: only.as_slice(),
+        ..first
+    };
+    let end = Written {
+        last: true,
+        bytes: last.as_slice(),
+        ..second
+    };
+    [first, second, whole, end]
+}
+
+/// Whether the message goes out as these bytes.
+fn goes_out(alloc: Global, message: &Written) -> Result<bool, Fail> {
+    let payload = message.payload;
+    if payload.len() > 65_536 {
+        return Err("too long")?;
+    }
+    let sent = Sent {
+        seq: u64::from(message.seq),
+        id: message.id,
+        date: u64::from(message.date.max(1)),
+        item: item(alloc, payload)?,
+        last: message.last,
+    };
+    let bytes = outgoing(alloc, message.side, &Outgoing::Stream(sent))?;
+    Ok(bytes.as_slice() == message.bytes)
+}
+
+/// Whether these bytes are heard as the message by the other side.
+fn comes_in(alloc: Global, message: &Written, bytes: &[u8]) -> bool {
+    match incoming(alloc, message.side.other(), bytes) {
+        Ok(
+            Incoming::Stream {
+                seq,
+                id,
+                item,
+                last,
+            },
+        ) => {
+            let same = seq == u64::from(message.seq) && id == message.id && last == message.last;
+            same && item.ptype == 1 && item.payload.as_slice() == message.payload
+        }
+        _ => false,
+    }
+}
+
+/// The flags of a message, at 63 alone here.
+const FLAGS: usize = 63;
+
+#[test]
+fn a_message_of_each_side_goes_out_and_comes_in(rt: HostRuntime) -> Result<(), Fail> {
+    let mut only = FIRST;
+    only[FLAGS] = 3;
+    let mut last = SECOND;
+    last[FLAGS] = 2;
+    for message in &four_messages(&only, &last) {
+        assert!(rt; goes_out(rt.alloc(), message)?);
+        assert!(rt; comes_in(rt.alloc(), message, message.bytes));
+    }
     Ok(())
+}
+
+#[test]
+fn of_the_flags_one_bit_is_looked_at(rt: HostRuntime) {
+    let mut bytes = FIRST;
+    for (flags, last) in [(0, false), (5, false), (6, true), (255, true)] {
+        bytes[FLAGS] = flags;
+        let heard = incoming(rt.alloc(), Side::Agent, &bytes);
+        let is_last = matches!(heard, Ok(Incoming::Stream { last: true, .. }));
+        assert!(rt; is_last == last, "with the flags {flags}");
+    }
 }
 
 #[test]
@@ -95,28 +176,7 @@ fn an_acknowledgement_has_its_id_in_lower_case(rt: HostRuntime) -> Result<(), Fa
 }
 
 #[test]
-fn a_message_goes_to_the_other_side_alone(rt: HostRuntime) -> Result<(), Fail> {
-    let cases = [
-        (Side::Agent, FIRST.as_slice(), 0, ID, b"abc".as_slice()),
-        (
-            Side::Plugin,
-            SECOND.as_slice(),
-            1,
-            LETTERS,
-            b"hi".as_slice(),
-        ),
-    ];
-    for (side, bytes, number, of, payload) in cases {
-        match incoming(rt.alloc(), side, bytes) {
-            Ok(Incoming::Stream { seq, id, item }) => {
-                assert_eq!(rt; seq, number);
-                assert_eq!(rt; id, of);
-                assert_eq!(rt; item.ptype, 1);
-                assert_eq!(rt; item.payload.as_slice(), payload);
-            }
-            _ => panic!(rt; "it is a stream message"),
-        }
-    }
+fn a_message_goes_to_the_other_side_alone(rt: HostRuntime) {
     let refused = incoming(rt.alloc(), Side::Plugin, &FIRST);
     let refusal = InRefusal::Wrong(Name::input_stream_data());
     assert!(rt;
@@ -129,7 +189,6 @@ fn a_message_goes_to_the_other_side_alone(rt: HostRuntime) -> Result<(), Fail> {
         refused.err() == Some(refusal),
         "it is a message of the agent"
     );
-    Ok(())
 }
 
 #[test]
@@ -157,76 +216,6 @@ fn each_name_is_heard_in_its_way(rt: HostRuntime) -> Result<(), Fail> {
     Ok(())
 }
 
-#[test]
-fn each_fault_of_a_closing_is_told(rt: HostRuntime) -> Result<(), Fail> {
-    let name = Name::channel_closed();
-    for (body, fault) in [("{", BodyFault::NotJson), ("[]", BodyFault::NotObject)] {
-        let refused = heard(rt.alloc(), name, 0, body)?;
-        assert!(rt; refused.err() == Some(InRefusal::Body(fault)), "of {body}");
-    }
-
-    // Each member behind those before it in the table: not there, of another kind, and right.
-    let members = [
-        (Member::CreatedDate, "\"CreatedDate\":", "1", "\"1\""),
-        (Member::DestinationId, ",\"DestinationId\":", "null", "\"\""),
-        (Member::MessageId, ",\"MessageId\":", "[]", "\"\""),
-        (Member::MessageType, ",\"MessageType\":", "{}", "\"\""),
-        (Member::Output, ",\"Output\":", "true", "\"\""),
-        (Member::SchemaVersion, ",\"SchemaVersion\":", "\"1\"", "1"),
-        (Member::SessionId, ",\"SessionId\":", "1.5", "\"\""),
-    ];
-    let mut front = String::from_str(rt.alloc(), "{")?;
-    for (member, key, wrong, right) in members {
-        let missing = format!(in rt.alloc(); "{front}}}")?;
-        let refused = heard(rt.alloc(), name, 0, missing.as_str())?;
-        let fault = InRefusal::Body(BodyFault::Missing(member));
-        assert!(rt; refused.err() == Some(fault), "without {key}");
-        let other = format!(in rt.alloc(); "{front}{key}{wrong}}}")?;
-        let refused = heard(rt.alloc(), name, 0, other.as_str())?;
-        let fault = InRefusal::Body(BodyFault::Kind(member));
-        assert!(rt; refused.err() == Some(fault), "{wrong} for {key}");
-        front.push_str(key)?;
-        front.push_str(right)?;
-    }
-    for version in ["-1", "4294967296"] {
-        let body = format!(in rt.alloc(); "{front},\"SchemaVersion\":{version}}}")?;
-        let refused = heard(rt.alloc(), name, 0, body.as_str())?;
-        let fault = InRefusal::Body(BodyFault::Range(Member::SchemaVersion));
-        assert!(rt; refused.err() == Some(fault), "the last {version} counts");
-    }
-    Ok(())
-}
-
-#[test]
-fn the_number_of_an_acknowledgement_has_63_bits(rt: HostRuntime) -> Result<(), Fail> {
-    let range = InRefusal::Body(BodyFault::Range(Member::AcknowledgedMessageSequenceNumber));
-    let kind = InRefusal::Body(BodyFault::Kind(Member::AcknowledgedMessageSequenceNumber));
-    let cases = [
-        ("9223372036854775808", range),
-        ("-1", InRefusal::Negative(-1)),
-        ("-9223372036854775808", InRefusal::Negative(i64::MIN)),
-        ("1.0", kind),
-    ];
-    let name = Name::acknowledge();
-    for (number, refusal) in cases {
-        let body = format!(in rt.alloc(); "{ACK_FRONT}{number}{ACK_BACK}")?;
-        let refused = heard(rt.alloc(), name, 0, body.as_str())?;
-        assert!(rt; refused.err() == Some(refusal), "at {number}");
-    }
-    let body = format!(in rt.alloc(); "{ACK_FRONT}9223372036854775807{ACK_BACK}")?;
-    match heard(rt.alloc(), name, -5, body.as_str())? {
-        Ok(Incoming::Ack { seq }) => assert_eq!(rt; seq, 9_223_372_036_854_775_807),
-        _ => panic!(rt; "its own number is not looked at"),
-    }
-    let refused = heard(rt.alloc(), name, 0, "{}")?;
-    let missing = BodyFault::Missing(Member::AcknowledgedMessageId);
-    assert!(rt;
-        refused.err() == Some(InRefusal::Body(missing)),
-        "the id is not there"
-    );
-    Ok(())
-}
-
 /// An item of type 1.
 fn item(alloc: Global, payload: &[u8]) -> Result<Item, NoMemory>
     ensures { IfOk result (λ item. item.payload ≡ payload.now) }
@@ -238,7 +227,7 @@ fn item(alloc: Global, payload: &[u8]) -> Result<Item, NoMemory>
 }
 
 /// What a plugin hears of a message.
-fn heard(
+pub fn heard(
     alloc: Global,
     name: Name,
     seq: i64,
