@@ -1,5 +1,6 @@
 //! Runs of the program over fakes of the outside.
 
+mod ends;
 mod listings;
 mod reports;
 mod statuses;
