@@ -9,7 +9,6 @@ use Rattle.chan_io.specs.Sinks.{Output, Writes, WritesPart}
 use Rattle.lab_run.specs.Printing.{IsPrinted, Stops, Printout}
 use Rattle.lab_run.specs.Run.{report, run}
 use Rattle.lab_run.specs.declared.stop.Stop.{Stop}
-use Rattle.lab_script.specs.declared.command.Command.{Command}
 use Rattle.lab_show.specs.Lines.{show_lines}
 use Rattle.lab_show.specs.Listings.{Shows, ShowsPart}
 use Rattle.lab_show.specs.declared.stop.ShowStop.{ShowStop}
@@ -19,22 +18,10 @@ use Rattle.lab_cmd.specs.declared.status.Status.{Status}
 use Rattle.lab_cmd.specs.declared.words.Mode.{Mode}
 use Rattle.lab_cmd.specs.Inputs.{IsLonger, ReadToEnd, max_input}
 use Rattle.lab_cmd.specs.Meanings.{HasBadLine, IsDue, IsDueIn, IsDueInput, IsUnread, Means, MeansInput, MeansMade, MeansRead, made_line, Outputs, Outside, ReadsInput, WritesFront}
-use Rattle.lab_cmd.specs.Script.{IsScript}
 use Rattle.lab_cmd.specs.Statuses.{status_of_input, status_of_script, status_of_show, status_of_stop}
 use Rattle.lab_cmd.specs.Words.{IsWords}
 use Rattle.lab_cmd.proofs.DueLemmas.{IsDueIn-worded, IsDueInput-unique}
-
--- what was read to the end is what was left
-pub left_from_read : (input : List ℕ) (before : Input) (told after : Option Input)
-    → told ≡ Some before → ReadToEnd input told after → before.left ≡ input
-left_from_read input before told after is read =
-    let P : Option Input → Type 0 = λ o. ReadToEnd input o after in
-    let at : P (Some before) = subst P is read in at.0
-
--- more was left than this
-pub longer_from_told : (most : ℕ) (told : Option Input) (before : Input)
-    → told ≡ Some before → IsLonger most told → most < length before.left
-longer_from_told most told before is longer = subst (IsLonger most) is longer
+use Rattle.lab_cmd.proofs.Reading.{left_from_read, longer_from_told}
 
 -- ---- the status of a fault means what it says
 

@@ -1,7 +1,7 @@
 -- What was read of a source, piece after piece.
-use Rattle.std.proofs.Common.{◌≡◌, ℕ, ◌≤◌, Option, Some, None, List, [], length, refl, sym, ap, subst, ◌∙◌, arith, length-append, append-nil}
+use Rattle.std.proofs.Common.{◌≡◌, ℕ, ◌<◌, ◌≤◌, Option, Some, None, List, [], length, refl, sym, ap, subst, ◌∙◌, arith, length-append, append-nil}
 use Rattle.chan_io.specs.Sources.{Input, Reads}
-use Rattle.lab_cmd.specs.Inputs.{ReadSome, GivesAtMost}
+use Rattle.lab_cmd.specs.Inputs.{ReadSome, GivesAtMost, IsLonger, ReadToEnd}
 
 -- at first nothing was read
 pub ReadSome-none : (before : Option Input) → ReadSome [] before before
@@ -29,3 +29,15 @@ GivesAtMost-read most bytes None after read short = read
 GivesAtMost-read most bytes (Some before) after read short =
     let Bounded : Option Input → Type 0 = GivesAtMost most (Some before) in
     subst Bounded (sym read.2) (omega (arith, length-append before.given bytes))
+
+-- what was read to the end is what was left
+pub left_from_read : (input : List ℕ) (before : Input) (told after : Option Input)
+    → told ≡ Some before → ReadToEnd input told after → before.left ≡ input
+left_from_read input before told after is read =
+    let P : Option Input → Type 0 = λ o. ReadToEnd input o after in
+    let at : P (Some before) = subst P is read in at.0
+
+-- more was left than this
+pub longer_from_told : (most : ℕ) (told : Option Input) (before : Input)
+    → told ≡ Some before → IsLonger most told → most < length before.left
+longer_from_told most told before is longer = subst (IsLonger most) is longer
