@@ -1,5 +1,5 @@
 -- The last message of a direction in each legal history: none is above it, and it is released once.
-use Rattle.std.proofs.Common.{◌≡◌, ℕ, ◌+◌, ◌≤◌, Bool, true, false, cond, Option, Some, None, List, [], ◌∷◌, ◌++◌, refl, sym, ap, subst, ◌∙◌, append_assoc, arith}
+use Rattle.std.proofs.Common.{◌≡◌, ℕ, ◌+◌, ◌≤◌, Bool, true, false, cond, Option, Some, None, List, [], ◌∷◌, ◌++◌, refl, sym, ap, subst, ◌∙◌, append_assoc, arith, ◌||◌}
 use Rattle.std.specs.List.{cons_option, list_any}
 use Rattle.std.proofs.lemmas.Bool.{both_ways, le-leb, le-ltb}
 use Rattle.std.proofs.lemmas.List.{append-nil}
@@ -9,16 +9,21 @@ use Rattle.chan_values.specs.declared.item.Item.{Item}
 use Rattle.channel_core.specs.declared.call.EndAnswer.{EndAnswer}
 use Rattle.channel_core.specs.declared.call.EndCall.{EndCall}
 use Rattle.channel_core.specs.Call.{Entry}
-use Rattle.channel_core.specs.History.{PutMessage, TakenMessage, finished_count, has_ended, is_finished, message_put, message_taken, put_messages, taken_messages}
-use Rattle.channel_core.specs.Laws.{FinishedIsOnce, NothingFollowsTheLast}
+use Rattle.channel_core.specs.History.{PutMessage, TakenMessage, finished_count, has_ended, is_closed, is_finished, message_put, message_taken, put_messages, released_items, taken_messages}
+use Rattle.channel_core.specs.Laws.{DirectionsEndApart, FinishedIsOnce, NothingFollowsTheLast}
 use Rattle.channel_core.specs.Legal.{IsAnswered, IsLegal, ends_with}
 use Rattle.channel_core.specs.Numbers.{has_number, least_absent, numbers_of}
 use Rattle.channel_core.proofs.CaseLemmas.{by_cases}
 use Rattle.channel_core.proofs.EndLemmas.{EndsTopmost, last_of, last_of-some, seqs_of}
-use Rattle.channel_core.proofs.HistoryLemmas.{by_pushes, finished_count-push, put_messages-push, taken_items-is, taken_messages-push}
+use Rattle.channel_core.proofs.HistoryLemmas.{by_pushes, finished_count-push, is_closed-push, released_items-push, put_messages-push, taken_items-is, taken_messages-push}
 use Rattle.channel_core.proofs.LegalLemmas.{IsLegal-pushed, IsNew, IsTakenSo, message}
 use Rattle.channel_core.proofs.NumberLemmas.{least_absent-le}
 use Rattle.channel_core.proofs.PastLemmas.{EndsTopmost-push, IsWithin, ends_with-is, last_of-push, past_end-none}
+
+-- a choice that fails leaves the other
+or-false : (b : Bool) → (b || false) ≡ b
+or-false true = refl
+or-false false = refl
 
 -- ---- one message more
 
@@ -206,3 +211,19 @@ nothing_follows_the_last w h more legal over =
     ∙ append-nil (put_messages (h ++ more))
     ∙ same)
     more legal
+
+-- ---- the other direction
+
+pub directions_end_apart : DirectionsEndApart
+directions_end_apart =
+    record {
+      finished = λ h now incoming items. (
+        put_messages-push h _ ∙ append-nil (put_messages h),
+        is_closed-push h _ ∙ or-false (is_closed h),
+      );
+      put_last = λ h item id now put. (
+        taken_messages-push h _ ∙ append-nil (taken_messages h),
+        released_items-push h _ ∙ append-nil (released_items h),
+        is_closed-push h _ ∙ or-false (is_closed h),
+      );
+    }

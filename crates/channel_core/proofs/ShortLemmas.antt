@@ -36,10 +36,7 @@ may_go put acked sent marked n =
 -- how much an end has to emit: the acknowledgements owed and the numbers that may go
 abbrev backlog_of : List (ℕ × List ℕ) → List PutMessage → List ℕ → List ℕ → List ℕ → ℕ
 backlog_of owed put acked sent marked =
-    length owed
-    + count_below
-    (may_go put acked sent marked)
-    (length put)
+    length owed + count_below (may_go put acked sent marked) (length put)
 
 abbrev pub backlog : ℕ → List Entry → ℕ
 backlog w h =

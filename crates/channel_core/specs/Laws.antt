@@ -7,11 +7,14 @@ use Rattle.chan_values.specs.Sides.{other}
 use Rattle.chan_values.specs.declared.item.Item.{Item}
 use Rattle.receive_window.specs.Window.{items_in_order}
 use Rattle.channel_core.specs.declared.call.EndAnswer.TheVariants as EndAnswer
+use Rattle.channel_core.specs.declared.call.EndCall.TheVariants as EndCall
 use Rattle.channel_core.specs.declared.answer.Heard.TheVariants as Heard
+use Rattle.channel_core.specs.declared.answer.Put.{Put}
+use Rattle.channel_core.specs.declared.message.Incoming.{Incoming}
 use Rattle.channel_core.specs.Call.{Entry}
 use Rattle.channel_core.specs.Condition.{CanBeEncoded, IsCallable}
 use Rattle.channel_core.specs.Exchange.{IsExchange, pull_count}
-use Rattle.channel_core.specs.History.{acked_numbers, emitted_acks, early_items, emissions, finished_count, has_ended, is_closed, is_paused, is_up, next_in_order, owed_acks, put_items, put_messages, released_items, taken_items, unacked_numbers}
+use Rattle.channel_core.specs.History.{acked_numbers, emitted_acks, early_items, emissions, finished_count, has_ended, is_closed, is_paused, is_up, next_in_order, owed_acks, put_items, put_messages, released_items, taken_items, taken_messages, unacked_numbers}
 use Rattle.channel_core.specs.Legal.{IsAnswered, IsLegal}
 use Rattle.channel_core.specs.Numbers.{has_number}
 use Rattle.channel_core.specs.Resending.{marked_due, sent_since_opened}
@@ -93,6 +96,25 @@ NothingFollowsTheLast =
     → IsLegal w (h ++ more)
     → has_ended h ≡ true
     → put_messages (h ++ more) ≡ put_messages h
+
+-- the end of one direction leaves the other as it was: an end that answers so has put in what it had,
+-- an end that puts in its last item has taken and released what it had, and neither is closed by it
+pub record DirectionsEndApart : Type 0 where
+  pub finished : (h : List Entry) (now : ℕ) (incoming : Incoming) (items : List Item)
+      → (let e : Entry = record {
+        call = EndCall.Heard now incoming;
+        answer = EndAnswer.Heard (Heard.Finished items);
+      } in
+      (put_messages (h ++ e ∷ []) ≡ put_messages h)
+      × (is_closed (h ++ e ∷ []) ≡ is_closed h))
+  pub put_last : (h : List Entry) (item : Item) (id : List ℕ) (now : ℕ) (put : Put)
+      → (let e : Entry = record {
+        call = EndCall.PutLast item id now;
+        answer = EndAnswer.Put put;
+      } in
+      (taken_messages (h ++ e ∷ []) ≡ taken_messages h)
+      × (released_items (h ++ e ∷ []) ≡ released_items h)
+      × (is_closed (h ++ e ∷ []) ≡ is_closed h))
 
 -- how much an end with the window w keeps
 pub record IsWithinWindow (w : ℕ) (h : List Entry) : Type 0 where

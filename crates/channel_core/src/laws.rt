@@ -12,7 +12,7 @@
 
 ghost use Rattle.channel_core.specs.Laws.{AcksKeepTheirOrder, ClosedIsClosedOnce, EachNumberIsOwedOnce, EachNumberIsTakenOnce, EmissionsCanBeEncoded, MarkedIsDueLast};
 ghost use Rattle.channel_core.specs.Laws.{OwedIsHeardLast, PausedIsPausedLast, ReleasedIsInOrder, SentIsEmittedSinceOpened, UpIsOpenedLast, WindowBoundsMessages};
-ghost use Rattle.channel_core.specs.Laws.{FinishedIsOnce, FinishedIsWhole, NothingFollowsTheLast, NothingIsPastTheEnd};
+ghost use Rattle.channel_core.specs.Laws.{DirectionsEndApart, FinishedIsOnce, FinishedIsWhole, NothingFollowsTheLast, NothingIsPastTheEnd};
 ghost use Rattle.channel_core.specs.Laws.{AcknowledgedHasArrived, ExchangeIsPossible, ExchangeIsShort, ExchangeReleasesAll, NothingIsBeyond, ReleasedIsPrefix, WorldsGoOn};
 
 /// An end is up exactly where it was connected and the connection was not lost since.
@@ -77,6 +77,11 @@ pub fn finished_is_once()
 /// After an item that was put in as the last no other is put in.
 pub fn nothing_follows_the_last()
     ensures { NothingFollowsTheLast }
+{}
+
+/// The end of one direction leaves the other as it was, and closes nothing.
+pub fn directions_end_apart()
+    ensures { DirectionsEndApart }
 {}
 
 /// With the window w an end keeps at most w unacknowledged messages, w - 1 early items and w
