@@ -12,8 +12,10 @@ pub record MemoryDialer : Type 0 where
 abbrev pub dial_with : List ℕ → Option (List ℕ) → Dial
 dial_with opening reply = record { opening = opening; reply = reply }
 
--- the dial stands behind those before, with its reply or as failed; at want of memory it is not told
-abbrev pub Dials : List ℕ → Result (List ℕ) IoFault → Option (List Dial) → Option (List Dial) → Type 0
+-- the dial stands behind those before, with its reply or as failed; at want of memory it is not
+-- told
+abbrev pub Dials :
+    List ℕ → Result (List ℕ) IoFault → Option (List Dial) → Option (List Dial) → Type 0
 Dials opening result None after = after ≡ None
 Dials opening (Ok reply) (Some before) after =
     after ≡ Some (before ++ dial_with opening (Some reply) ∷ [])

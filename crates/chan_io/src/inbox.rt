@@ -24,7 +24,10 @@ impl Model for Inbox {
 
     ghost Value = { Arrivals };
 
-    ghost view = { λ b. record { answered = b.answered.items; coming = drop b.at b.content.items } };
+    ghost view = { λ b. record {
+      answered = b.answered.items;
+      coming = drop b.at b.content.items;
+    } };
 }
 
 impl Inbox {

@@ -1,9 +1,10 @@
 //! What the channel reads from and writes to, as traits, with fakes in memory.
 //!
-//! A trait's ghost members say what its object tells of its content, where it tells it, and how many
-//! of its calls failed. The code above is generic and is proved once, for every such object.
+//! A trait's ghost members say what its object tells of its content, where it tells it, and how
+//! many of its calls failed. The code above is generic and is proved once, for every such object.
 #![tactic(auto)]
 
+mod called;
 mod clock;
 mod dial;
 mod dial_log;
@@ -45,6 +46,7 @@ mod still_clock;
 mod tests;
 mod thread;
 
+pub use called::{AnswerKeeps, Called};
 pub use chan_values::{Bytes, NoMemory, Side, Text, Word};
 pub use clock::Clock;
 pub use dial::Dial;

@@ -17,14 +17,16 @@ pub trait LinkOut {
 
     /// Sends a binary message.
     fn send(&mut self, message: &[u8]) -> Result<(), IoFault>
-        ensures sends { Sends (Got.Binary message.now) result (departures self.old) (departures self.new) }
+        ensures sends { Sends (Got.Binary message.now) result
+            (departures self.old) (departures self.new) }
         ensures steady { UnlessFailed result (faults self.new ≡ faults self.old) }
         ensures failed { IfFailed result (Rises (faults self.old) (faults self.new)) }
         ensures counted { faults self.old ≤ faults self.new };
 
     /// Sends a text message.
     fn send_text(&mut self, text: &[u8]) -> Result<(), IoFault>
-        ensures sends { Sends (Got.Text text.now) result (departures self.old) (departures self.new) }
+        ensures sends { Sends (Got.Text text.now) result
+            (departures self.old) (departures self.new) }
         ensures steady { UnlessFailed result (faults self.new ≡ faults self.old) }
         ensures failed { IfFailed result (Rises (faults self.old) (faults self.new)) }
         ensures counted { faults self.old ≤ faults self.new };

@@ -1,12 +1,13 @@
 //! Closures that were started.
 
+use crate::called::{AnswerKeeps, Called};
 use std::thread::{Promise, PromisedHandle, Threads};
 
 /// Where a started closure is.
 #[derive(Drop)]
 pub enum CallWork<T, P: Promise<T>> {
     /// A thread calls it.
-    Thread(PromisedHandle<T, P>),
+    Thread(PromisedHandle<Called<T>, AnswerKeeps<P>>),
     /// It was called by its start.
     Finished(T),
 }
@@ -28,7 +29,7 @@ impl<T, P: Promise<T>> RunningCall<T, P> {
     {
         let RunningCall { work } = self;
         match work {
-            CallWork::Thread(handle) => handle.join(rt),
+            CallWork::Thread(handle) => handle.join(rt).answer,
             CallWork::Finished(done) => done,
         }
     }

@@ -1,6 +1,6 @@
 //! What starts jobs.
 
-ghost use Rattle.std.specs.Prelude.{◌≡◌, ◌≤◌, ℕ, Bool, IfOk, IfErr, OnOk, OnErr};
+ghost use Rattle.std.specs.Prelude.{◌≡◌, ◌≤◌, ℕ, Bool, false, IfOk, IfErr, OnOk, OnErr};
 ghost use Rattle.chan_io.specs.Faults.{Merges, Rises};
 ghost use Rattle.chan_io.specs.Calls.{IsCallOf};
 ghost use Rattle.chan_io.specs.Jobs.{IsRunOf};
@@ -25,7 +25,8 @@ pub trait Spawner: Sized + Send + Drop {
 
     /// Chooses how the next start is carried out.
     fn choose(&mut self) -> Start
-        ensures chooses { Chooses (makes_threads self.new) (faults self.old) result (faults self.new) }
+        ensures chooses { Chooses (makes_threads self.new)
+            (faults self.old) result (faults self.new) }
         ensures counted { faults self.old ≤ faults self.new };
 
     /// Counts a start for which no thread could be made.
@@ -71,7 +72,9 @@ pub trait Spawner: Sized + Send + Drop {
         }
     }
 
-    /// Starts a call of the closure with `true`. Where it can't be started it is called with `false` here.
+    /// Starts a call of the closure, which is to work at `true` and to give its parts back at `false`.
+    /// Where it was started the answer at its join keeps the promise; no clause says to which of them
+    /// it is the answer. Where it wasn't, `Err` has the answer to `false`, given here.
     final fn start_call<
         's,
         'e,
@@ -89,7 +92,7 @@ pub trait Spawner: Sized + Send + Drop {
         requires runs { (b : Bool) → F.pre call b }
         requires keeps { (b : Bool) (r : T) → F.post call b r → P.kept_by promise r }
         ensures started { IfOk result (IsCallOf P.kept_by promise) }
-        ensures back { IfErr result (λ r. (b : Bool) × F.post call b r) }
+        ensures back { IfErr result (λ r. F.post call false r) }
         ensures steady { OnOk result (faults self.new ≡ faults self.old) }
         ensures failed { OnErr result (Rises (faults self.old) (faults self.new)) }
         ensures counted { faults self.old ≤ faults self.new }

@@ -5,6 +5,7 @@ ghost use Rattle.chan_io.specs.Jobs.{IsRunOf};
 ghost use Rattle.chan_io.specs.Calls.{IsCallOf};
 ghost use Rattle.chan_io.specs.Ends.{EndsWell};
 
+use crate::called::{AnswerKeeps, Called};
 use crate::ended::{Ended, MayEnd};
 use crate::job::Job;
 use crate::running::{Running, Work};
@@ -59,7 +60,8 @@ pub(crate) fn start_thread<'s, 'e, J: Job + 's>(
     })
 }
 
-/// Starts a thread that calls the closure with `true`. Where none can be made, it is called with `false` here.
+/// Starts a thread that calls the closure. Where none can be made, `Err` has the closure's answer to
+/// `false`, given here.
 pub(crate) fn call_in_thread<
     's,
     'e,
@@ -70,25 +72,32 @@ pub(crate) fn call_in_thread<
     requires runs { (b : Bool) → F.pre call b }
     requires keeps { (b : Bool) (r : T) → F.post call b r → P.kept_by promise r }
     ensures started { IfOk result (IsCallOf P.kept_by promise) }
-    ensures back { IfErr result (λ r. (b : Bool) × F.post call b r) }
+    ensures back { IfErr result (λ r. F.post call false r) }
 {
     let Some((refused, theirs)) = shared_flag(alloc) else {
         return Err(call(false));
     };
-    let run = move || -> T
+    let run = move || -> Called<T>
         requires { (b : Bool) → F.pre call b }
-        ensures { (b : Bool) × F.post call b result }
+        ensures { F.post call result.runs result.answer }
     {
         let runs = !theirs.load(Ordering::SeqCst);
-        call(runs)
+        let answer = call(runs);
+        Called { runs, answer }
     };
-    match scope.spawn_with(promise, run) {
+    match scope.spawn_with(AnswerKeeps { promise }, run) {
         Ok(handle) => Ok(RunningCall {
             work: CallWork::Thread(handle),
         }),
         Err(error) => {
             refused.store(true, Ordering::SeqCst);
-            Err((error.value)())
+            let Called { runs, answer } = (error.value)();
+            if runs {
+                return Ok(RunningCall {
+                    work: CallWork::Finished(answer),
+                });
+            }
+            Err(answer)
         }
     }
 }
