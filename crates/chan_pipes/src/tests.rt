@@ -1,0 +1,4 @@
+//! The adapters, at the system.
+
+mod children;
+mod connections;
