@@ -11,10 +11,12 @@
 //! Messages go from a current connection to the current one of the other role of its session. What
 //! a former connection sends is passed over.
 
-ghost use Rattle.std.specs.Prelude.{◌≡◌, IfOk, OnOk, OnErr, []};
+ghost use Rattle.std.specs.Prelude.{◌≡◌, List, IfOk, OnOk, OnErr, []};
 ghost use Rattle.relay_core.specs.Rooms.{dismissals, greetings, pauses};
+ghost use Rattle.relay_core.specs.Forwarding.{current};
 ghost use Rattle.relay_core.specs.Kept.{Follows, Stands, peer_in, room_in};
 ghost use Rattle.relay_core.specs.Changes.{Ends, IsSame, Loses, Opens};
+ghost use Rattle.relay_core.specs.declared.event.Event.{Event};
 
 use crate::action::Actions;
 use crate::answer::{dismiss, forward, greet, pause_peer};
@@ -80,6 +82,19 @@ impl Relay {
             Event::Gone { conn } => self.lose(&stamp, conn),
             Event::EndSession { session } => self.end(&stamp, session),
         }
+    }
+
+    /// The current connection of a role in a session.
+    pub fn current(&self, session: &SessionName, role: Side) -> Option<u64>
+        ensures { (es : List Event) → Stands self.now es → result ≡ current es session.now role }
+    {
+        self.room(session).holder(role)
+    }
+
+    fn room(&self, session: &SessionName) -> Room
+        ensures { result ≡ room_in self.now.rooms session.now }
+    {
+        room_for(&self.rooms, session)
     }
 
     // The peer of a current connection.
