@@ -1,0 +1,14 @@
+pub mod Acts
+pub mod Ends
+pub mod Halting
+pub mod Journal
+pub mod Judging
+pub mod Laws
+pub mod Looking
+pub mod Marks
+pub mod Moves
+pub mod Playing
+pub mod Readings
+pub mod Replay
+pub mod Seats
+pub mod Verdict
