@@ -1,1 +1,4 @@
+pub mod Adds
 pub mod Held
+pub mod Kinds
+pub mod Shelf
