@@ -1,0 +1,10 @@
+pub mod Crossing
+pub mod ReaderLawLemmas
+pub mod ReaderLemmas
+pub mod ReaderRunLemmas
+pub mod ReleaseLemmas
+pub mod ResendRunLemmas
+pub mod TextLemmas
+pub mod WriterLawLemmas
+pub mod WriterRunLemmas
+pub mod WritingLemmas

@@ -1,0 +1,12 @@
+pub mod Openings
+pub mod ReaderLaws
+pub mod ReaderRuns
+pub mod ReaderSteps
+pub mod Readers
+pub mod Reading
+pub mod ResendRuns
+pub mod Resends
+pub mod WriterLaws
+pub mod WriterRuns
+pub mod Writers
+pub mod Writing
