@@ -38,8 +38,8 @@ pub record IsLatest (w : ℕ) (side : Side) (h : List Entry) (latest : Latest) :
   pub done : HasSent w side h latest.end sent
   pub kept : latest.emission ≡ emission_at sent Which.Last
 
--- An end made this step. It keeps what it sent before, and what is in the outcome comes behind that.
--- The outcome may have another number of an emission.
+-- An end made this step. It keeps what it sent before, and what is in the outcome comes behind
+-- that. The outcome may have another number of an emission.
 pub record MakesLatest
     (w : ℕ) (world : List Event) (s : Step) (latest : Latest) (outcome : Outcome) : Type 0 where
   pub told : is_emission outcome ≡ is_emission s.outcome

@@ -10,6 +10,7 @@ pub mod RightLemmas
 pub mod PairLemmas
 pub mod TypedLemmas
 pub mod RunLemmas
+pub mod FollowLemmas
 pub mod PassLemmas
 pub mod SendableLemmas
 pub mod LawLemmas

@@ -1,19 +1,17 @@
 -- What a script makes of the two ends.
-use Rattle.std.proofs.Common.{◌≡◌, ◌≢◌, ℕ, ◌+◌, ◌-◌, false, Option, Some, None, List, [], ◌∷◌, ◌++◌, length, refl, sym, ap, subst, ◌∙◌, append_assoc, append-nil, add-zero, arith}
+use Rattle.std.proofs.Common.{◌≡◌, ◌≢◌, ℕ, ◌+◌, ◌-◌, false, Option, Some, None, List, [], ◌∷◌, ◌++◌, length, refl, sym, ap, subst, ◌∙◌, append_assoc, append-nil, add-zero, arith, map, true}
 use Rattle.std.specs.List.{fold}
-use Rattle.std.proofs.lemmas.List.{length-append}
 use Rattle.std.proofs.lemmas.List.Elements.{filter_map-append}
 use Rattle.std.proofs.lemmas.Grind.{flat_map-append}
 use Rattle.std.proofs.lemmas.List.Sums.{fold-append}
-use Rattle.chan_values.specs.declared.side.Side.TheVariants.{Plugin, Agent}
 use Rattle.chan_values.specs.Sides.{other}
 use Rattle.channel_core.specs.declared.call.EndCall.{EndCall}
 use Rattle.channel_core.specs.declared.message.Incoming.TheVariants as Incoming
 use Rattle.channel_core.specs.declared.message.Outgoing.{Outgoing}
-use Rattle.channel_core.specs.Exchange.{incoming_of}
-use Rattle.channel_core.specs.History.{emissions, is_closed, put_items, released_items}
-use Rattle.channel_core.specs.World.{Event, WasEmitted, history_of}
-use Rattle.channel_core.proofs.WorldLemmas.{IsRight, IsRight-nil, IsRight-push, WasEmitted-at}
+use Rattle.channel_core.specs.History.{PutMessage, has_ended, is_closed, put_items, released_items}
+use Rattle.channel_core.specs.Legal.{IsLegal}
+use Rattle.channel_core.specs.World.{Event, entry_at, history_of}
+use Rattle.channel_core.proofs.WorldLemmas.{IsRight}
 use Rattle.lab_script.specs.Report.{report_line}
 use Rattle.chan_values.specs.declared.side.Side.{Side}
 use Rattle.lab_script.specs.declared.command.Action.{Action}
@@ -22,18 +20,17 @@ use Rattle.lab_script.specs.declared.outcome.Outcome.{Outcome}
 use Rattle.lab_script.specs.Command.{verb_of}
 use Rattle.lab_script.specs.declared.word.Which.{Which}
 use Rattle.channel_core.proofs.DeliveryLemmas.{each_number_is_taken_once, released_is_prefix}
+use Rattle.channel_core.proofs.FinishLemmas.{finished_is_once, nothing_follows_the_last}
 use Rattle.channel_core.proofs.WholeLemmas.{finished_is_whole}
+use Rattle.channel_core.proofs.WithinLemmas.{nothing_is_past_the_end}
 use Rattle.channel_core.proofs.ExchangeLemmas.{exchange_releases_all}
 use Rattle.lab_run.specs.declared.pair.Pair.{Pair}
 use Rattle.lab_run.specs.declared.stop.Stop.{Stop}
-use Rattle.lab_run.specs.Ends.{IsPair}
 use Rattle.lab_run.specs.Laws.{IsFaithful, IsSettled}
-use Rattle.lab_run.specs.Printing.{Adds, Printout, Stops}
-use Rattle.lab_run.specs.Run.{Progress, moment_after, progress, progress_after, report, run}
+use Rattle.lab_run.specs.Run.{Progress, progress, progress_after, report, run}
 use Rattle.lab_run.specs.Steps.{Step, events_of, settle_steps, start, step_of, steps_of, world_of}
 use Rattle.lab_run.proofs.RightLemmas.{IsOf-step_of, IsRight-start, IsRight-steps}
 use Rattle.lab_run.proofs.SettleLemmas.{IsRight-settle, settle_has_lines, settle_is_exchange}
-use Rattle.lab_run.proofs.WritingLemmas.{Adds-nothing, Adds-then, Stops-longer, Stops-then}
 
 -- more steps are more of the world
 pub world_of-append : (a b : List Step) → world_of (a ++ b) ≡ world_of a ++ events_of b
@@ -143,9 +140,37 @@ run-push w commands command now line at number =
     (λ n. run w commands ++ steps_of w (world_of (run w commands)) now n command)
     (line-progress w commands ∙ sym number)
 
+-- more steps are more of what happened at an end
+history-append : (side : Side) (a b : List Step)
+    → history_of side (world_of (a ++ b))
+    ≡ history_of side (world_of a) ++ history_of side (events_of b)
+unfolding history_of
+history-append side a b =
+    ap (history_of side) (world_of-append a b)
+    ∙ filter_map-append (λ (x : Event). entry_at side x.side x.entry) (world_of a) (events_of b)
+
+-- after the last item of a direction nothing is put in there, whatever lines follow
+puts-end : (w : ℕ) (commands rest : List Command) (side : Side)
+    → let h = history_of side (world_of (run w commands)) in
+    has_ended h ≡ true
+    → put_items (history_of side (world_of (run w (commands ++ rest)))) ≡ put_items h
+puts-end w commands rest side over =
+    let h = history_of side (world_of (run w commands)) in
+    let front = run-front w commands rest in
+    let more = history_of side (events_of front.0) in
+    let joined : history_of side (world_of (run w (commands ++ rest))) ≡ h ++ more =
+    ap (λ (s : List Step). history_of side (world_of s)) front.1
+    ∙ history-append side (run w commands) front.0 in
+    let legal : IsLegal w (h ++ more) =
+    subst (IsLegal w) joined ((IsRight-run w (commands ++ rest)).legal side) in
+    ap put_items joined
+    ∙ ap
+    (λ (l : List PutMessage). map (λ m. m.item) l)
+    (nothing_follows_the_last w h more legal over)
+
 -- the world of a script is legal and honest, each number is taken once there, what was released is a
--- prefix of what was put in, the whole where its last item was released, and a script that goes on has
--- the same beginning
+-- prefix of what was put in, the whole where its last item was released, none is past an end, none is
+-- put in after it, and a script that goes on has the same beginning
 pub run_is_faithful : (w : ℕ) (commands : List Command) → IsFaithful w commands
 run_is_faithful w commands =
     let r = IsRight-run w commands in
@@ -156,6 +181,10 @@ run_is_faithful w commands =
           (r.legal side);
       prefix = λ side. released_is_prefix w (world_of (run w commands)) side r.legal r.honest;
       whole = λ side. finished_is_whole w (world_of (run w commands)) side r.legal r.honest;
+      within = λ n. nothing_is_past_the_end w (world_of (run w commands)) n r.legal r.honest;
+      finished = λ side. finished_is_once w (history_of side (world_of (run w commands)))
+          (r.legal side);
+      ended = puts-end w commands;
       begins = λ rest. let more = run-front w commands rest in (more.0, sym more.1);
     }
 
@@ -197,79 +226,3 @@ run_is_settled w commands =
     after =
         ap world_of (run-push w commands Command.Settle now line refl refl)
         ∙ world_of-append (run w commands) (settle_steps w before now line)
-
--- ---- a run, line after line
-
--- these lines were followed, and the text of their steps was added to a report
-pub record Runs (w : ℕ) (commands : List Command) (moment line : ℕ) (pair : Pair)
-    (old new : Printout) : Type 0 where
-  pub number : line ≡ length commands
-  pub at : moment ≡ (progress w commands).now
-  pub ends : IsPair w (world_of (run w commands)) pair
-  pub printed : Adds (report (run w commands)) old new
-
--- before the first line
-pub Runs-none : (w : ℕ) (pair : Pair) (s : Printout) → IsPair w start pair → Runs w [] 0 0 pair s s
-Runs-none w pair s ends =
-    let P : List Event → Type 0 = λ world. IsPair w world pair in
-    record {
-      number = refl;
-      at = now-none w;
-      ends = subst P (sym (world_of-none w)) ends;
-      printed = rw (report-run-none w) (Adds-nothing s);
-    }
-
--- one line more
-pub Runs-push : (w : ℕ) (commands : List Command) (command : Command) (moment after line : ℕ)
-    (old_pair new_pair : Pair) (old mid new : Printout)
-    → Runs w commands moment line old_pair old mid
-    → let world = world_of (run w commands) in
-    let steps = steps_of w world moment (line + 1) command in
-    after ≡ moment_after moment command
-    → IsPair w (world ++ events_of steps) new_pair
-    → Adds (report steps) mid new
-    → Runs w (commands ++ command ∷ []) after (line + 1) new_pair old new
-Runs-push w commands command moment after line old_pair new_pair old mid new r is ends printed =
-    let world = world_of (run w commands) in
-    let steps = steps_of w world moment (line + 1) command in
-    let number : line + 1 ≡ length commands + 1 = ap (λ n. n + 1) r.number in
-    let push : run w (commands ++ command ∷ []) ≡ run w commands ++ steps =
-    run-push w commands command moment (line + 1) r.at number in
-    let P : List Event → Type 0 = λ v. IsPair w v new_pair in
-    let Q : List ℕ → Type 0 = λ text. Adds text old new in
-    record {
-      number = number ∙ sym (length-append commands (command ∷ []));
-      at =
-          is
-          ∙ ap (λ n. moment_after n command) r.at
-          ∙ sym (ap (λ p. p.now) (progress-push w commands command));
-      ends = subst P (sym (ap world_of push ∙ world_of-append (run w commands) steps)) ends;
-      printed =
-          subst Q (sym (ap report push ∙ report-append (run w commands) steps))
-          (Adds-then (report (run w commands)) (report steps) old mid new r.printed printed);
-    }
-
--- a line at which the run stops
-pub Runs-stops : (w : ℕ) (commands : List Command) (command : Command) (rest : List Command)
-    (moment line : ℕ) (pair : Pair) (stop : Stop) (old mid new : Printout)
-    → Runs w commands moment line pair old mid
-    → let world = world_of (run w commands) in
-    Stops (report (steps_of w world moment (line + 1) command)) stop mid new
-    → Stops (report (run w ((commands ++ command ∷ []) ++ rest))) stop old new
-Runs-stops w commands command rest moment line pair stop old mid new r stops =
-    let steps = steps_of w (world_of (run w commands)) moment (line + 1) command in
-    let number : line + 1 ≡ length commands + 1 = ap (λ n. n + 1) r.number in
-    let push : run w (commands ++ command ∷ []) ≡ run w commands ++ steps =
-    run-push w commands command moment (line + 1) r.at number in
-    let front = run-front w (commands ++ command ∷ []) rest in
-    let whole : (report (run w commands) ++ report steps) ++ report front.0
-    ≡ report (run w ((commands ++ command ∷ []) ++ rest)) =
-    ap
-    (λ (t : List ℕ). t ++ report front.0)
-    (sym (report-append (run w commands) steps) ∙ ap report (sym push))
-    ∙ sym (report-append (run w (commands ++ command ∷ [])) front.0)
-    ∙ ap report (sym front.1) in
-    let P : List ℕ → Type 0 = λ text. Stops text stop old new in
-    subst P whole
-    (Stops-longer (report (run w commands) ++ report steps) (report front.0) stop old new
-    (Stops-then (report (run w commands)) (report steps) stop old mid new r.printed stops))

@@ -20,7 +20,8 @@ payload_start = 120
 abbrev pub damaged : List ℕ → ℕ → List ℕ
 damaged bytes place = slice_set bytes place (bit_xor (slice_index bytes place) 1)
 
--- what is reported of bytes that are not heard. What is wrong inside of a whole message is not told.
+-- what is reported of bytes that are not heard. What is wrong inside of a whole message is not
+-- told.
 abbrev pub outcome_of_refusal : InRefusal → Outcome
 outcome_of_refusal (InRefusal.Message refusal) = Outcome.Refused (number_of refusal)
 outcome_of_refusal refusal = Outcome.Passed

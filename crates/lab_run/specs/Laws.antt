@@ -4,6 +4,8 @@ use Rattle.std.specs.List.{All, AllPairs}
 use Rattle.chan_values.specs.declared.side.Side.{Side}
 use Rattle.chan_values.specs.Sides.{other}
 use Rattle.channel_core.specs.Arrival.{Answer, Arrives}
+use Rattle.channel_core.specs.declared.call.EndAnswer.TheVariants as EndAnswer
+use Rattle.channel_core.specs.declared.answer.Heard.TheVariants as Heard
 use Rattle.channel_core.specs.declared.message.Outgoing.{Outgoing}
 use Rattle.channel_core.specs.Exchange.{IsExchange}
 use Rattle.channel_core.specs.History.{finished_count, has_ended, is_closed, put_items, released_items, taken_items}
@@ -17,9 +19,9 @@ use Rattle.lab_run.specs.Ends.{AllSendable, IsSendable}
 use Rattle.lab_run.specs.Run.{run}
 use Rattle.lab_run.specs.Steps.{events_of, settle_lines, steps_at, steps_of, world_of}
 
--- after these lines each end answered as it should, heard only what the other had emitted and took each
--- number at most once, and what it released is a prefix of what the other end's user put in: all of it
--- where the last item was released
+-- after these lines each end answered as it should, heard only what the other had emitted and took
+-- each number at most once, and what it released is a prefix of what the other end's user put in:
+-- all of it where the last item was released; after a last item nothing is put in
 pub record IsFaithful (w : ℕ) (commands : List Command) : Type 0 where
   pub legal : IsLegalWorld w (world_of (run w commands))
   pub honest : IsHonest (world_of (run w commands))
@@ -31,19 +33,30 @@ pub record IsFaithful (w : ℕ) (commands : List Command) : Type 0 where
       (side : Side)
       → IsPrefixOf (released_items (history_of side world))
       (put_items (history_of (other side) world))
-  -- an end has answered that the last item is released exactly where the other was given its last item,
-  -- and all that was put in there is released
+  -- an end has answered once that the last item is released exactly where the other was given its
+  -- last item, and all that was put in there is released
   pub whole :
       let world = world_of (run w commands) in
       (side : Side)
       → (finished_count (history_of side world) ≡ 1)
       ↔ ((has_ended (history_of (other side) world) ≡ true)
       × (released_items (history_of side world) ≡ put_items (history_of (other side) world)))
+  -- no message that an end hears is answered as past the end of its direction
+  pub within : (n : ℕ)
+      → All (λ x. x.entry.answer ≢ EndAnswer.Heard (Heard.PastEnd n)) (world_of (run w commands))
+  -- an end answers at most once that the last item is released
+  pub finished : (side : Side) → finished_count (history_of side (world_of (run w commands))) ≤ 1
+  -- after the last item of a direction nothing is put in there, whatever lines follow
+  pub ended : (rest : List Command) (side : Side)
+      → let h = history_of side (world_of (run w commands)) in
+      has_ended h ≡ true
+      → put_items (history_of side (world_of (run w (commands ++ rest)))) ≡ put_items h
   -- a script that goes on behind these lines begins with their steps
   pub begins : (rest : List Command) → IsPrefixOf (run w commands) (run w (commands ++ rest))
 
--- a settle behind these lines makes an exchange without a loss, and its steps are those of the lines
--- that it stands for; where neither end is closed then, each has released all that the other put in
+-- a settle behind these lines makes an exchange without a loss, and its steps are those of the
+-- lines that it stands for; where neither end is closed then, each has released all that the other
+-- put in
 pub record IsSettled (w : ℕ) (commands : List Command) : Type 0 where
   pub exchange : (now line : ℕ)
       → IsExchange (events_of (steps_of w (world_of (run w commands)) now line Command.Settle))
@@ -58,8 +71,8 @@ pub record IsSettled (w : ℕ) (commands : List Command) : Type 0 where
       → (side : Side)
       → released_items (history_of (other side) world) ≡ put_items (history_of side world)
 
--- where a message comes to a side with a byte of its payload changed, `hurt` reports what the side answers
--- to these bytes
+-- where a message comes to a side with a byte of its payload changed, `hurt` reports what the side
+-- answers to these bytes
 abbrev pub HurtTellsIncoming : Type 0
 HurtTellsIncoming =
     (side : Side) (place : ℕ) (out : Outgoing) (answer : Answer)

@@ -5,14 +5,14 @@
 ghost use Rattle.lab_run.specs.Laws.{EveryEmissionIsSendable, EveryScriptIsFaithful, EverySettleExchangesAll, HurtTellsIncoming, ScriptLaws};
 
 /// The world of every script is legal and honest, each end takes each number once in it, and what an
-/// end released is a prefix of what the other end's user put in, and all of it where that user put in a
-/// last item and the end told that it was released.
+/// end released is a prefix of what the other end's user put in: all of it where that user put in a
+/// last item and the end told, once, that it was released. After a last item nothing is put in.
 pub fn every_script_is_faithful()
     ensures { EveryScriptIsFaithful }
 {}
 
-/// After every script a settle is an exchange without a loss; where neither end is closed then, each
-/// has released all that the other put in.
+/// After every script a settle is an exchange without a loss; where neither end is closed then,
+/// each has released all that the other put in.
 pub fn every_settle_exchanges_all()
     ensures { EverySettleExchangesAll }
 {}

@@ -6,7 +6,7 @@ use Rattle.lab_script.specs.declared.command.Command.{Command}
 use Rattle.lab_run.specs.Printing.{Prints, Stops, printout}
 use Rattle.lab_run.specs.Run.{report, run}
 use Rattle.lab_run.specs.Steps.{world_of}
-use Rattle.lab_run.proofs.RunLemmas.{Runs-none, Runs-push, Runs-stops}
+use Rattle.lab_run.proofs.FollowLemmas.{Runs-none, Runs-push, Runs-stops}
 use Rattle.lab_run.proofs.WritingLemmas.{Prints-emptied, Prints-then, Stops-at}
 use Rattle.lab_run.proofs.plain.run.Goals as goal
 

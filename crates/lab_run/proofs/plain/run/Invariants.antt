@@ -1,7 +1,7 @@
 use Rattle.std.proofs.Common.{◌≡◌, ◌++◌, []}
 use Rattle.std.specs.Vec.Iter.{into_iter_items}
 use Rattle.lab_run.specs.Printing.{printout}
-use Rattle.lab_run.proofs.RunLemmas.{Runs}
+use Rattle.lab_run.proofs.FollowLemmas.{Runs}
 use Rattle.lab_run.proofs.plain.run.Given as goal
 
 -- the lines so far were followed
