@@ -8,3 +8,7 @@ pub mod Spelling
 pub mod GrammarLemmas
 pub mod OneSpelling
 pub mod Appends
+pub mod StreamSpelling
+pub mod StreamLines
+pub mod RelaySpelling
+pub mod RelayLines

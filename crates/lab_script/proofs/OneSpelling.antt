@@ -21,7 +21,7 @@ use Rattle.lab_script.proofs.Verbs.{same_verb}
 
 -- ---- each word stands for one value
 
-same_side : (a b : Side) → side_text a ≡ side_text b → a ≡ b
+pub same_side : (a b : Side) → side_text a ≡ side_text b → a ≡ b
 same_side Plugin Plugin e = refl
 same_side Agent Agent e = refl
 same_side Plugin Agent e = absurd (omega (arith, ap (λ (xs : List ℕ). get_or xs 0 0) e))
@@ -33,13 +33,13 @@ last_is_no_number n fits e =
     let digits = subst (IsNumeral 10) e (decimal_is_IsNumeral n fits).0 in
     omega (arith, digits.1.0)
 
-same_which : (a b : Which) → IsWhich a → IsWhich b → which_text a ≡ which_text b → a ≡ b
+pub same_which : (a b : Which) → IsWhich a → IsWhich b → which_text a ≡ which_text b → a ≡ b
 same_which (Number m) (Number n) fits_m fits_n e = ap Number (decimal_injective m n fits_m fits_n e)
 same_which (Number m) Last fits_m fits_n e = absurd (last_is_no_number m fits_m e)
 same_which Last (Number n) fits_m fits_n e = absurd (last_is_no_number n fits_n (sym e))
 same_which Last Last fits_m fits_n e = refl
 
-same_payload : (a b : List ℕ) → IsPayload a → IsPayload b → hex_text a ≡ hex_text b → a ≡ b
+pub same_payload : (a b : List ℕ) → IsPayload a → IsPayload b → hex_text a ≡ hex_text b → a ≡ b
 same_payload [] [] fits_a fits_b e = refl
 same_payload [] (y ∷ ys) fits_a fits_b e = absurd (omega (arith, ap length e, length-hex_text y ys))
 same_payload (x ∷ xs) [] fits_a fits_b e = absurd (omega (arith, ap length e, length-hex_text x xs))
@@ -48,7 +48,7 @@ same_payload (x ∷ xs) (y ∷ ys) fits_a fits_b e =
 
 -- ---- and so do all words of a command
 
-same_item : (a b : Item) → IsItem a → IsItem b → item_words a ≡ item_words b → a ≡ b
+pub same_item : (a b : Item) → IsItem a → IsItem b → item_words a ≡ item_words b → a ≡ b
 same_item a b fits_a fits_b same =
     let types : a.ptype ≡ b.ptype =
     decimal_injective a.ptype b.ptype (omega (arith, fits_a.0)) (omega (arith, fits_b.0))
@@ -79,7 +79,7 @@ same_action Action.Start Action.Start fits fits' verb same = refl
 same_action Action.End Action.End fits fits' verb same = refl
 same_action _ _ fits fits' verb same = absurd (cc verb)
 
-same_command : (a b : Command) → IsCommand a → IsCommand b → words_of a ≡ words_of b → a ≡ b
+pub same_command : (a b : Command) → IsCommand a → IsCommand b → words_of a ≡ words_of b → a ≡ b
 same_command (Command.At moment) (Command.At moment') fits fits' same =
     ap (λ (n : ℕ). Command.At n) (decimal_injective moment moment' fits fits' (cc same))
 same_command (Command.At moment) Command.Settle fits fits' same = absurd (cc same)

@@ -2,6 +2,10 @@ pub mod Appending
 pub mod Command
 pub mod Grammar
 pub mod Lines
+pub mod RelayCommand
+pub mod RelayGrammar
 pub mod Report
+pub mod StreamCommand
+pub mod StreamGrammar
 pub mod Verb
 pub mod Words

@@ -97,7 +97,7 @@ fn read_action(alloc: Global, verb: Verb, words: &mut Words) -> Result<Option<Ac
         Verb::Pause => Ok(Some(Action::Pause)),
         Verb::Start => Ok(Some(Action::Start)),
         Verb::End => Ok(Some(Action::End)),
-        Verb::At | Verb::Settle => Ok(None),
+        _ => Ok(None),
     }
 }
 

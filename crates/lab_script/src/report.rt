@@ -3,10 +3,10 @@
 ghost use Rattle.std.specs.Prelude.{◌≡◌, ◌∷◌, ◌++◌, [], codes, length, map, decimal, OnOk, OnErr};
 ghost use Rattle.lab_script.specs.Appending.{Keeps, spaced};
 ghost use Rattle.lab_script.specs.Words.{hex_text};
-ghost use Rattle.lab_script.specs.Report.{item_text, outcome_words, side_words, report_line};
+ghost use Rattle.lab_script.specs.Report.{item_text, outcome_words, relay_outcome_words, report_line, side_words, stream_outcome_words};
 
 use crate::hexadecimal::push_bytes;
-use crate::outcome::Outcome;
+use crate::outcome::{Outcome, RelayOutcome, StreamOutcome};
 use crate::verb::Verb;
 use crate::word::{letter_of, push_number};
 use chan_values::{Item, NoMemory, Side};
@@ -92,7 +92,51 @@ fn push_outcome(out: &mut Vec<u8>, outcome: &Outcome) -> Result<(), NoMemory>
         Outcome::Due(n) => push_counted(out, "due", *n),
         Outcome::GaveUp(n) => push_counted(out, "gave-up", *n),
         Outcome::Quiet => Ok(()),
+        Outcome::Stream(outcome) => push_stream_outcome(out, outcome),
+        Outcome::Relay(outcome) => push_relay_outcome(out, outcome),
     }
+}
+
+fn push_stream_outcome(out: &mut Vec<u8>, outcome: &StreamOutcome) -> Result<(), NoMemory>
+    ensures ok { OnOk result
+        (out.new.items ≡ out.old.items ++ spaced (stream_outcome_words outcome.now)) }
+    ensures err { OnErr result (Keeps out.old.items out.new.items) }
+{
+    match outcome {
+        StreamOutcome::Sid(n) => push_counted(out, "sid", u64::from(*n)),
+        StreamOutcome::TooMany => push_word(out, "too-many"),
+        StreamOutcome::IdsSpent => push_word(out, "ids-spent"),
+        StreamOutcome::Done => push_word(out, "done"),
+        StreamOutcome::Unknown => push_word(out, "unknown"),
+        StreamOutcome::Empty => push_word(out, "empty"),
+        StreamOutcome::Taken(bytes) => push_taken(out, bytes.as_slice()),
+        StreamOutcome::Opened(n) => push_counted(out, "opened", u64::from(*n)),
+        StreamOutcome::Ready(n) => push_counted(out, "ready", u64::from(*n)),
+        StreamOutcome::Ended(n) => push_counted(out, "ended", u64::from(*n)),
+        StreamOutcome::Refused(n) => push_counted(out, "refused", u64::from(*n)),
+    }
+}
+
+fn push_relay_outcome(out: &mut Vec<u8>, outcome: &RelayOutcome) -> Result<(), NoMemory>
+    ensures ok { OnOk result
+        (out.new.items ≡ out.old.items ++ spaced (relay_outcome_words outcome.now)) }
+    ensures err { OnErr result (Keeps out.old.items out.new.items) }
+{
+    match outcome {
+        RelayOutcome::Connection(n) => push_counted(out, "conn", *n),
+        RelayOutcome::Sent => push_word(out, "sent"),
+        RelayOutcome::Dropped => push_word(out, "dropped"),
+    }
+}
+
+// A space and bytes.
+fn push_taken(out: &mut Vec<u8>, bytes: &[u8]) -> Result<(), NoMemory>
+    ensures ok { OnOk result
+        (out.new.items ≡ out.old.items ++ spaced (hex_text bytes.now ∷ [])) }
+    ensures err { OnErr result (Keeps out.old.items out.new.items) }
+{
+    out.push(b' ')?;
+    push_bytes(out, bytes)
 }
 
 // `emit`, the number and the encoding.

@@ -1,3 +1,7 @@
+//! Lines of a script and of a report, by their texts.
+
+mod modes;
+
 use crate::{Action, Command, Lines, Outcome, Verb, Which, parse, push_line};
 use chan_values::{Bytes, Item, Items, MAX_PAYLOAD, Side};
 use std::alloc::Global;

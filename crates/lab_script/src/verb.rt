@@ -4,7 +4,7 @@ ghost use Rattle.std.specs.Prelude.{◌≡◌, ◌≢◌, IfSome, IfNone};
 ghost use Rattle.lab_script.specs.declared.verb.Verb.{Verb};
 ghost use Rattle.lab_script.specs.Verb.{verb_text};
 
-/// What a line of a script asks for.
+/// What a line of a script asks for, or a line of a report tells of.
 #[derive(Clone, Copy, Debug, PartialEq, Eq)]
 pub enum Verb {
     /// The moment is set.
@@ -35,6 +35,28 @@ pub enum Verb {
     End,
     /// Both ends connect anew and exchange all that is left.
     Settle,
+    /// The plugin's end opens a stream.
+    StreamOpen,
+    /// An end writes to a stream.
+    StreamWrite,
+    /// An end closes a stream.
+    StreamClose,
+    /// An end puts an item of what its streams give out.
+    StreamPush,
+    /// An end takes what came for a stream.
+    StreamTake,
+    /// Something became of a stream at an end. No line of a script begins so.
+    StreamEvent,
+    /// An end has a new connection to the relay.
+    Dial,
+    /// An end's connection to the relay is gone.
+    Gone,
+    /// An emission of an end goes to the relay.
+    Post,
+    /// An end hears what the relay sent to it.
+    Take,
+    /// The relay is told that the session ends.
+    Finish,
 }
 
 impl Verb {
@@ -58,6 +80,17 @@ impl Verb {
             b"start" => Some(Verb::Start),
             b"end" => Some(Verb::End),
             b"settle" => Some(Verb::Settle),
+            b"sopen" => Some(Verb::StreamOpen),
+            b"swrite" => Some(Verb::StreamWrite),
+            b"sclose" => Some(Verb::StreamClose),
+            b"spush" => Some(Verb::StreamPush),
+            b"stake" => Some(Verb::StreamTake),
+            b"stream" => Some(Verb::StreamEvent),
+            b"dial" => Some(Verb::Dial),
+            b"gone" => Some(Verb::Gone),
+            b"post" => Some(Verb::Post),
+            b"take" => Some(Verb::Take),
+            b"finish" => Some(Verb::Finish),
             _ => None,
         }
     }
@@ -81,6 +114,17 @@ impl Verb {
             Verb::Start => "start",
             Verb::End => "end",
             Verb::Settle => "settle",
+            Verb::StreamOpen => "sopen",
+            Verb::StreamWrite => "swrite",
+            Verb::StreamClose => "sclose",
+            Verb::StreamPush => "spush",
+            Verb::StreamTake => "stake",
+            Verb::StreamEvent => "stream",
+            Verb::Dial => "dial",
+            Verb::Gone => "gone",
+            Verb::Post => "post",
+            Verb::Take => "take",
+            Verb::Finish => "finish",
         }
     }
 }
