@@ -16,7 +16,7 @@ from streams import Streams
 from words import GREATEST_WINDOW, Usage, read_words
 
 GREATEST_INPUT = 67_108_864
-BUILT = ("last", "show", "gen")
+BUILT = ("last", "show", "gen", "streams", "relay")
 COMING = ("last", "show", "gen", "streams", "relay")
 SCRIPTED = {"plain": Pair, "streams": Streams, "relay": Relayed}
 

@@ -1,13 +1,18 @@
 -- There is one status that the words and the bytes that are left call for.
-use Rattle.std.proofs.Common.{◌≡◌, ℕ, ◌+◌, ◌<◌, ◌≤◌, ⊎_elim, zero, suc, Option, Some, None, List, [], ◌∷◌, ◌++◌, length, take, refl, sym, ap, subst, ◌∙◌, append_assoc, arith}
+use Rattle.std.proofs.Common.{◌≡◌, ℕ, ◌+◌, ◌<◌, ◌≤◌, ⊎_elim, zero, suc, Some, None, List, [], ◌∷◌, ◌++◌, length, take, refl, sym, ap, subst, ◌∙◌, append_assoc, arith}
 use Rattle.std.proofs.Math.Seq.{take-nil}
 use Rattle.agent_message.proofs.CaptureLaws.{one_reading}
+use Rattle.lab_script.specs.Command.{IsCommand, IsScriptLine, spelling}
 use Rattle.lab_script.specs.Lines.{lines_of}
+use Rattle.lab_script.specs.RelayCommand.{IsRelayCommand, IsRelayLine, relay_spelling}
+use Rattle.lab_script.specs.StreamCommand.{IsStreamCommand, IsStreamLine, stream_spelling}
 use Rattle.lab_cmd.specs.declared.status.Status.{Status}
 use Rattle.lab_cmd.specs.declared.words.Mode.{Mode}
-use Rattle.lab_cmd.specs.Meanings.{HasBadLine, IsDue, IsDueIn, IsDueInput, Outputs}
+use Rattle.lab_cmd.specs.declared.words.ScriptKind.{ScriptKind}
+use Rattle.lab_cmd.specs.Meanings.{HasBadLine, IsDue, IsDueIn, IsDueInput, IsLine, Outputs, Reports}
+use Rattle.lab_cmd.specs.Script.{IsFirstBad}
 use Rattle.lab_cmd.specs.Words.{Begins, IsWords, IsWordsFault}
-use Rattle.lab_cmd.proofs.ScriptLemmas.{IsFirstBad-unique, not_both}
+use Rattle.lab_cmd.proofs.ScriptLemmas.{IsFirstBad-unique, not_both, says_command, says_relay_command, says_stream_command}
 use Rattle.lab_cmd.proofs.WordLemmas.{IsWords-unique}
 
 -- fewer words begin more words
@@ -61,9 +66,9 @@ IsWordsFault-unique words k m a b =
 -- an input has one output, with one status
 Outputs-unique : (mode : Mode) (input : List ℕ) (a b : Status) (s t : List ℕ)
     → Outputs mode input a s → Outputs mode input b t → a ≡ b
-Outputs-unique (Mode.Plain window) input Status.Ok Status.Ok s t x y = refl
-Outputs-unique (Mode.Plain window) input Status.Ok _ s t x y = absurd y
-Outputs-unique (Mode.Plain window) input _ _ s t x y = absurd x
+Outputs-unique (Mode.Script kind window) input Status.Ok Status.Ok s t x y = refl
+Outputs-unique (Mode.Script kind window) input Status.Ok _ s t x y = absurd y
+Outputs-unique (Mode.Script kind window) input _ _ s t x y = absurd x
 Outputs-unique Mode.Show input Status.Ok Status.Ok s t x y = refl
 Outputs-unique Mode.Show input Status.Ok (Status.BadCapture fault) s t x y =
     let same = one_reading input x.0 y.0 None (Some fault) x.1 y.1 in absurd (cc (same.1))
@@ -78,17 +83,33 @@ Outputs-unique Mode.Show input _ _ s t x y = absurd x
 Outputs-unique (Mode.Gen rounds start) input _ _ s t x y = absurd x
 
 -- it has no line out of the grammar then
+no_bad_script : (kind : ScriptKind) (window : ℕ) (input : List ℕ) (n : ℕ) (text : List ℕ)
+    → IsFirstBad (IsLine kind) n (lines_of input) → Reports kind window input text → ⊥
+no_bad_script ScriptKind.Plain window input n text bad x =
+    not_both spelling IsCommand IsScriptLine (λ command fits. says_command command fits)
+    n x.0 input x.1 bad
+no_bad_script ScriptKind.Streams window input n text bad x =
+    not_both stream_spelling IsStreamCommand IsStreamLine
+    (λ command fits. says_stream_command command fits)
+    n x.0 input x.1 bad
+no_bad_script ScriptKind.Relay window input n text bad x =
+    not_both relay_spelling IsRelayCommand IsRelayLine
+    (λ command fits. says_relay_command command fits)
+    n x.0 input x.1 bad
+
 no_bad_line : (mode : Mode) (input : List ℕ) (n : ℕ) (status : Status) (text : List ℕ)
     → HasBadLine mode n input → Outputs mode input status text → ⊥
-no_bad_line (Mode.Plain window) input n Status.Ok text bad x = not_both n x.0 input x.1 bad
-no_bad_line (Mode.Plain window) input n _ text bad x = x
+no_bad_line (Mode.Script kind window) input n Status.Ok text bad x =
+    no_bad_script kind window input n text bad x
+no_bad_line (Mode.Script kind window) input n _ text bad x = x
 no_bad_line Mode.Show input n status text bad x = bad
 no_bad_line (Mode.Gen rounds start) input n status text bad x = bad
 
 -- there is one line that is the first out of the grammar
 HasBadLine-unique : (mode : Mode) (input : List ℕ) (n m : ℕ)
     → HasBadLine mode n input → HasBadLine mode m input → n ≡ m
-HasBadLine-unique (Mode.Plain window) input n m x y = IsFirstBad-unique n m (lines_of input) x y
+HasBadLine-unique (Mode.Script kind window) input n m x y =
+    IsFirstBad-unique (IsLine kind) n m (lines_of input) x y
 HasBadLine-unique Mode.Show input n m x y = absurd x
 HasBadLine-unique (Mode.Gen rounds start) input n m x y = absurd x
 
@@ -110,7 +131,8 @@ IsDueInput-unique mode left a b x y = Outputs-unique mode left a b x.1.0 y.1.0 x
 -- so do a mode and the bytes that are left
 IsDueIn-unique : (mode : Mode) (left : List ℕ) (a b : Status)
     → IsDueIn mode left a → IsDueIn mode left b → a ≡ b
-IsDueIn-unique (Mode.Plain window) left a b x y = IsDueInput-unique (Mode.Plain window) left a b x y
+IsDueIn-unique (Mode.Script kind window) left a b x y =
+    IsDueInput-unique (Mode.Script kind window) left a b x y
 IsDueIn-unique Mode.Show left a b x y = IsDueInput-unique Mode.Show left a b x y
 IsDueIn-unique (Mode.Gen rounds start) left a b x y = x ∙ sym y
 

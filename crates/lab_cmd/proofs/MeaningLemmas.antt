@@ -1,13 +1,12 @@
 -- What a status means, and which status is due.
-use Rattle.std.proofs.Common.{◌≡◌, ◌≢◌, ℕ, ◌<◌, ◌≤◌, ◌⊎◌, inl, inr, Option, Some, None, List, [], ◌++◌, length, refl, sym, subst, ◌∙◌, arith, append-nil}
+use Rattle.std.proofs.Common.{◌≡◌, ◌≢◌, ℕ, ◌⊎◌, inl, inr, Option, Some, None, List, [], refl, sym, subst, ◌∙◌, append-nil}
 use Rattle.agent_message.specs.Captures.{IsCapture}
 use Rattle.agent_message.specs.declared.capture_fault.CaptureFault.{CaptureFault}
 use Rattle.agent_message.specs.declared.message.Message.{Message}
 use Rattle.chan_io.specs.Sources.{Input}
 use Rattle.chan_io.specs.Faults.{Rises}
 use Rattle.chan_io.specs.Sinks.{Output, Writes, WritesPart}
-use Rattle.lab_run.specs.Printing.{IsPrinted, Stops, Printout}
-use Rattle.lab_run.specs.Run.{report, run}
+use Rattle.lab_run.specs.Printing.{IsPrinted}
 use Rattle.lab_run.specs.declared.stop.Stop.{Stop}
 use Rattle.lab_show.specs.Lines.{show_lines}
 use Rattle.lab_show.specs.Listings.{Shows, ShowsPart}
@@ -16,7 +15,7 @@ use Rattle.lab_cmd.specs.declared.input.InputFault.{InputFault}
 use Rattle.lab_cmd.specs.declared.script.ScriptFault.{ScriptFault}
 use Rattle.lab_cmd.specs.declared.status.Status.{Status}
 use Rattle.lab_cmd.specs.declared.words.Mode.{Mode}
-use Rattle.lab_cmd.specs.Inputs.{IsLonger, ReadToEnd, max_input}
+use Rattle.lab_cmd.specs.Inputs.{IsLonger, max_input}
 use Rattle.lab_cmd.specs.Meanings.{HasBadLine, IsDue, IsDueIn, IsDueInput, IsUnread, Means, MeansInput, MeansMade, MeansRead, made_line, Outputs, Outside, ReadsInput, WritesFront}
 use Rattle.lab_cmd.specs.Statuses.{status_of_input, status_of_script, status_of_show, status_of_stop}
 use Rattle.lab_cmd.specs.Words.{IsWords}
@@ -272,8 +271,10 @@ due_in_mode : (mode : Mode) (status due : Status) (unwritten : Type 0) (old new 
     → ¬ Rises old.reads_failed new.reads_failed
     → ¬ Rises old.writes_failed new.writes_failed
     → (status ≡ due) ⊎ (status ≡ Status.NoMemory)
-due_in_mode (Mode.Plain window) status due unwritten old new before m told is_due reads writes =
-    due_from_input (Mode.Plain window) status due unwritten old new before m told is_due reads writes
+due_in_mode (Mode.Script kind window)
+    status due unwritten old new before m told is_due reads writes =
+    due_from_input (Mode.Script kind window)
+    status due unwritten old new before m told is_due reads writes
 due_in_mode Mode.Show status due unwritten old new before m told is_due reads writes =
     due_from_input Mode.Show status due unwritten old new before m told is_due reads writes
 due_in_mode (Mode.Gen rounds start) status due unwritten old new before m told is_due reads writes =

@@ -1,13 +1,15 @@
 -- Words that are a command line, and words that are none.
-use Rattle.std.proofs.Common.{◌≡◌, ◌≢◌, ℕ, ◌+◌, ◌<◌, inl, inr, List, [], ◌∷◌, ◌++◌, length, take, drop, refl, sym, ap, subst, ◌∙◌, ◌≤◌, codes, decimal, arith}
+use Rattle.std.proofs.Common.{◌≡◌, ◌≢◌, ℕ, ◌+◌, ◌<◌, inl, inr, List, [], ◌∷◌, length, take, drop, refl, sym, ap, subst, ◌∙◌, codes, arith}
 use Rattle.std.proofs.lemmas.Fmt.{decimal_injective}
 use Rattle.std.proofs.lemmas.List.{nil_from_length, take-append-drop}
 use Rattle.lab_cmd.specs.declared.words.Mode.{Mode}
-use Rattle.lab_cmd.specs.Words.{Begins, IsMode, IsWindow, IsWords, IsWordsFault}
+use Rattle.lab_cmd.specs.declared.words.ScriptKind.{ScriptKind}
+use Rattle.lab_cmd.specs.Words.{Begins, IsMode, IsNoOption, IsWords, IsWordsFault, kind_words}
 
--- the options are different words
-options_differ : codes "--show" ≢ codes "--window"
-options_differ e = let n : 6 ≡ 8 = ap length e in omega (arith, n)
+-- ---- the options are different words
+
+pub show_is_not_window : codes "--show" ≢ codes "--window"
+show_is_not_window e = let n : 6 ≡ 8 = ap length e in omega (arith, n)
 
 pub gen_is_not_window : codes "--gen" ≢ codes "--window"
 gen_is_not_window e = let n : 5 ≡ 8 = ap length e in omega (arith, n)
@@ -15,95 +17,56 @@ gen_is_not_window e = let n : 5 ≡ 8 = ap length e in omega (arith, n)
 pub gen_is_not_show : codes "--gen" ≢ codes "--show"
 gen_is_not_show e = let n : 5 ≡ 6 = ap length e in omega (arith, n)
 
--- `--window` and a window
-pub IsWords-window : (window : ℕ) (operands : List (List ℕ)) (number : List ℕ)
-    (more : List (List ℕ))
-    → operands ≡ number ∷ more
-    → length more ≡ 0
-    → IsWindow window
-    → decimal window ≡ number
-    → IsWords (Mode.Plain window) (codes "--window" ∷ operands)
-IsWords-window window operands number more second last fits spelled =
-    let none : more ≡ [] = nil_from_length more last in
-    inr (cc, fits)
+-- the word of a kind is no other option
+kind_is_not : (kind : ScriptKind) (option : List ℕ) (rest : List (List ℕ))
+    → kind_words kind ≡ option ∷ rest → length option ≢ 9 → length option ≢ 7 → ⊥
+kind_is_not ScriptKind.Plain option rest e nine seven = absurd (cc e)
+kind_is_not ScriptKind.Streams option rest e nine seven =
+    let same : option ≡ codes "--streams" = cc e in nine (ap length same)
+kind_is_not ScriptKind.Relay option rest e nine seven =
+    let same : option ≡ codes "--relay" = cc e in seven (ap length same)
 
--- `--show`
-pub IsWords-show : (words : List (List ℕ)) (option : List ℕ) (operands : List (List ℕ))
-    → words ≡ option ∷ operands
-    → option ≡ codes "--show"
-    → length operands ≡ 0
-    → IsWords Mode.Show words
-IsWords-show words option operands front named last =
-    let none : operands ≡ [] = nil_from_length operands last in cc
+pub kind_is_not_window : (kind : ScriptKind) (rest : List (List ℕ))
+    → kind_words kind ≢ codes "--window" ∷ rest
+kind_is_not_window kind rest e =
+    kind_is_not kind (codes "--window") rest e
+    (λ (n : 8 ≡ 9). omega (arith, n)) (λ (n : 8 ≡ 7). omega (arith, n))
 
--- no command line begins with another word
-not_the_option : (option : List ℕ) (operands : List (List ℕ)) (mode : Mode)
-    → option ≢ codes "--window"
-    → option ≢ codes "--show"
-    → option ≢ codes "--gen"
-    → IsWords mode (option ∷ operands) → ⊥
-not_the_option option operands (Mode.Plain window) other third fourth (inl none) =
-    let e = none.0 in absurd (cc)
-not_the_option option operands (Mode.Plain window) other third fourth (inr told) =
-    let e = told.0 in other (cc)
-not_the_option option operands Mode.Show other third fourth e = third (cc)
-not_the_option option operands (Mode.Gen rounds start) other third fourth told =
-    let e = told.0 in fourth (cc)
+kind_is_not_show : (kind : ScriptKind) (rest : List (List ℕ))
+    → kind_words kind ≢ codes "--show" ∷ rest
+kind_is_not_show kind rest e =
+    kind_is_not kind (codes "--show") rest e
+    (λ (n : 6 ≡ 9). omega (arith, n)) (λ (n : 6 ≡ 7). omega (arith, n))
 
--- nor has it a second word behind `--window` that is no window
-not_a_window : (number : List ℕ) (more : List (List ℕ)) (mode : Mode)
-    → ((n : ℕ) → IsWindow n → decimal n ≢ number)
-    → IsWords mode (codes "--window" ∷ number ∷ more) → ⊥
-not_a_window number more (Mode.Plain window) other (inl none) = let e = none.0 in absurd (cc)
-not_a_window number more (Mode.Plain window) other (inr told) =
-    let e = told.0 in other window told.1 (cc)
-not_a_window number more Mode.Show other e = absurd (cc)
-not_a_window number more (Mode.Gen rounds start) other told =
-    let e = told.0 in
-    let same : codes "--gen" ≡ codes "--window" = cc in gen_is_not_window same
+pub kind_is_not_gen : (kind : ScriptKind) (rest : List (List ℕ))
+    → kind_words kind ≢ codes "--gen" ∷ rest
+kind_is_not_gen kind rest e =
+    kind_is_not kind (codes "--gen") rest e
+    (λ (n : 5 ≡ 9). omega (arith, n)) (λ (n : 5 ≡ 7). omega (arith, n))
 
--- nor is `--window` alone one
-not_one : (mode : Mode) → IsWords mode (codes "--window" ∷ []) → ⊥
-not_one (Mode.Plain window) (inl none) = let e = none.0 in absurd (cc)
-not_one (Mode.Plain window) (inr told) = let e = told.0 in absurd (cc)
-not_one Mode.Show e = let same : codes "--show" ≡ codes "--window" = cc in options_differ same
-not_one (Mode.Gen rounds start) told = let e = told.0 in absurd (cc)
+-- a kind has one word at most
+pub one_word : (kind : ScriptKind) (word : List ℕ) (rest : List (List ℕ))
+    → kind_words kind ≡ word ∷ rest → rest ≡ []
+one_word ScriptKind.Plain word rest e = absurd (cc e)
+one_word ScriptKind.Streams word rest e = cc e
+one_word ScriptKind.Relay word rest e = cc e
 
--- nor has it a third word
-not_three : (number third : List ℕ) (more : List (List ℕ)) (mode : Mode)
-    → IsWords mode (codes "--window" ∷ number ∷ third ∷ more) → ⊥
-not_three number third more (Mode.Plain window) (inl none) = let e = none.0 in absurd (cc)
-not_three number third more (Mode.Plain window) (inr told) = let e = told.0 in absurd (cc)
-not_three number third more Mode.Show e = absurd (cc)
-not_three number third more (Mode.Gen rounds start) told =
-    let e = told.0 in
-    let same : codes "--gen" ≡ codes "--window" = cc in gen_is_not_window same
+streams_is_not_relay : codes "--streams" ≢ codes "--relay"
+streams_is_not_relay e = let n : 9 ≡ 7 = ap length e in omega (arith, n)
 
--- nor a word behind `--show`
-not_behind_show : (word : List ℕ) (more : List (List ℕ)) (mode : Mode)
-    → IsWords mode (codes "--show" ∷ word ∷ more) → ⊥
-not_behind_show word more (Mode.Plain window) (inl none) = let e = none.0 in absurd (cc)
-not_behind_show word more (Mode.Plain window) (inr told) =
-    let e = told.0 in let same : codes "--show" ≡ codes "--window" = cc in options_differ same
-not_behind_show word more Mode.Show e = absurd (cc)
-not_behind_show word more (Mode.Gen rounds start) told =
-    let e = told.0 in let same : codes "--gen" ≡ codes "--show" = cc in gen_is_not_show same
+-- and it is named by its word
+same_kind : (a b : ScriptKind) → kind_words a ≡ kind_words b → a ≡ b
+same_kind ScriptKind.Plain ScriptKind.Plain e = refl
+same_kind ScriptKind.Plain _ e = absurd (cc e)
+same_kind ScriptKind.Streams ScriptKind.Plain e = absurd (cc e)
+same_kind ScriptKind.Streams ScriptKind.Streams e = refl
+same_kind ScriptKind.Streams ScriptKind.Relay e = absurd (streams_is_not_relay (cc e))
+same_kind ScriptKind.Relay ScriptKind.Plain e = absurd (cc e)
+same_kind ScriptKind.Relay ScriptKind.Streams e =
+    let same : codes "--streams" ≡ codes "--relay" = cc e in absurd (streams_is_not_relay same)
+same_kind ScriptKind.Relay ScriptKind.Relay e = refl
 
--- what begins a command line
-one_is_a_window : IsWindow 1
-one_is_a_window = (omega arith, omega arith)
-
-Begins-none : Begins []
-Begins-none = (codes "--show" ∷ [], Mode.Show, refl)
-
-Begins-option : Begins (codes "--window" ∷ [])
-Begins-option = (decimal 1 ∷ [], Mode.Plain 1, inr (refl, one_is_a_window))
-
-Begins-window : (window : ℕ) → IsWindow window → Begins (codes "--window" ∷ decimal window ∷ [])
-Begins-window window fits = ([], Mode.Plain window, inr (refl, fits))
-
-Begins-show : Begins (codes "--show" ∷ [])
-Begins-show = ([], Mode.Show, refl)
+-- ---- words that stop being a command line
 
 -- words of which the first k begin a command line, and the first k + 1 begin none
 pub stops_at : (words : List (List ℕ)) (k : ℕ) → Begins (take k words) → ¬ Begins (take (k + 1) words)
@@ -120,102 +83,149 @@ stops_at words k begin stop =
       stop = inr stop;
     }
 
--- the first word is no option
+-- what begins a command line
+Begins-none : Begins []
+Begins-none = (codes "--show" ∷ [], Mode.Show, refl)
+
+-- no mode is asked for by a word that is neither `--show` nor that of a kind
+pub IsNoOption-other : (option : List ℕ)
+    → option ≢ codes "--show"
+    → ((kind : ScriptKind) → kind_words kind ≢ option ∷ [])
+    → IsNoOption option
+IsNoOption-other option other none (Mode.Script kind window) (inl told) = none kind (sym told.0)
+IsNoOption-other option other none (Mode.Script kind window) (inr told) =
+    let e = told.0 in absurd (cc e)
+IsNoOption-other option other none Mode.Show e = other (cc e)
+IsNoOption-other option other none (Mode.Gen rounds start) told =
+    let e = told.0 in absurd (cc e)
+
+-- nor does a command line begin with it
+not_the_option : (option : List ℕ) (more : List (List ℕ)) (mode : Mode)
+    → option ≢ codes "--window"
+    → option ≢ codes "--gen"
+    → IsNoOption option
+    → IsWords mode (option ∷ more) → ⊥
+not_the_option option more (Mode.Script kind window) second third none (inl told) =
+    let last = one_word kind option more (sym told.0) in
+    none (Mode.Script kind window) (inl (rw last at told.0, told.1))
+not_the_option option more (Mode.Script kind window) second third none (inr told) =
+    let e = told.0 in second (cc e)
+not_the_option option more Mode.Show second third none e =
+    let last : more ≡ [] = cc e in none Mode.Show (rw last at e)
+not_the_option option more (Mode.Gen rounds start) second third none told =
+    let e = told.0 in third (cc e)
+
 pub IsWordsFault-other : (words : List (List ℕ)) (option : List ℕ) (operands : List (List ℕ))
     → words ≡ option ∷ operands
     → option ≢ codes "--window"
-    → option ≢ codes "--show"
     → option ≢ codes "--gen"
+    → IsNoOption option
     → IsWordsFault words 0
-IsWordsFault-other words option operands front other third fourth =
+IsWordsFault-other words option operands front second third none =
     let at : IsWordsFault (option ∷ operands) 0 =
     stops_at (option ∷ operands) 0 Begins-none
-    (λ (b : Begins (option ∷ [])). not_the_option option b.0 b.1 other third fourth b.2)
+    (λ (b : Begins (option ∷ [])). not_the_option option b.0 b.1 second third none b.2)
     in
     rw front at
 
--- there is a word behind `--show`
-show_and_more : (operands : List (List ℕ)) → 0 < length operands
-    → IsWordsFault (codes "--show" ∷ operands) 1
-show_and_more [] some = absurd (omega (arith, some))
-show_and_more (word ∷ more) some =
-    stops_at (codes "--show" ∷ word ∷ more) 1 Begins-show
-    (λ (b : Begins (codes "--show" ∷ word ∷ [])). not_behind_show word b.0 b.1 b.2)
+-- nothing stands behind a word that asks for a mode alone
+nothing_behind : (option word : List ℕ) (more : List (List ℕ)) (mode other : Mode)
+    → IsWords mode (option ∷ []) → IsWords other (option ∷ word ∷ more) → ⊥
+nothing_behind option word more mode (Mode.Script kind window) alone (inl told) =
+    let last = one_word kind option (word ∷ more) (sym told.0) in absurd (cc last)
+nothing_behind option word more (Mode.Script a m) (Mode.Script kind window) (inl alone) (inr told) =
+    let e = told.0 in
+    let window_is : option ≡ codes "--window" = cc e in
+    kind_is_not_window a [] (sym alone.0 ∙ ap (λ (w : List ℕ). w ∷ []) window_is)
+nothing_behind option word more (Mode.Script a m) (Mode.Script kind window) (inr alone) (inr told) =
+    let e = alone.0 in absurd (cc e)
+nothing_behind option word more Mode.Show (Mode.Script kind window) alone (inr told) =
+    let e = told.0 in
+    let same : codes "--show" ≡ codes "--window" = cc (e, alone) in show_is_not_window same
+nothing_behind option word more (Mode.Gen k n) (Mode.Script kind window) alone (inr told) =
+    let e = alone.0 in absurd (cc e)
+nothing_behind option word more mode Mode.Show alone e = absurd (cc e)
+nothing_behind option word more (Mode.Script a m) (Mode.Gen rounds start) (inl alone) told =
+    let e = told.0 in
+    let gen_is : option ≡ codes "--gen" = cc e in
+    kind_is_not_gen a [] (sym alone.0 ∙ ap (λ (w : List ℕ). w ∷ []) gen_is)
+nothing_behind option word more (Mode.Script a m) (Mode.Gen rounds start) (inr alone) told =
+    let e = alone.0 in absurd (cc e)
+nothing_behind option word more Mode.Show (Mode.Gen rounds start) alone told =
+    let e = told.0 in
+    let same : codes "--gen" ≡ codes "--show" = cc (e, alone) in gen_is_not_show same
+nothing_behind option word more (Mode.Gen k n) (Mode.Gen rounds start) alone told =
+    let e = alone.0 in absurd (cc e)
 
-pub IsWordsFault-show : (words : List (List ℕ)) (option : List ℕ) (operands : List (List ℕ))
-    → words ≡ option ∷ operands → option ≡ codes "--show" → 0 < length operands
+alone_and_more : (option : List ℕ) (operands : List (List ℕ)) (mode : Mode)
+    → IsWords mode (option ∷ []) → 0 < length operands → IsWordsFault (option ∷ operands) 1
+alone_and_more option [] mode alone some = absurd (omega (arith, some))
+alone_and_more option (word ∷ more) mode alone some =
+    stops_at (option ∷ word ∷ more) 1 ([], mode, alone)
+    (λ (b : Begins (option ∷ word ∷ [])). nothing_behind option word b.0 mode b.1 alone b.2)
+
+pub IsWordsFault-alone : (words : List (List ℕ)) (option : List ℕ) (operands : List (List ℕ))
+    (mode : Mode)
+    → words ≡ option ∷ operands
+    → IsWords mode (option ∷ [])
+    → 0 < length operands
     → IsWordsFault words 1
-IsWordsFault-show words option operands front named some =
-    rw (front, named) (show_and_more operands some)
+IsWordsFault-alone words option operands mode front alone some =
+    rw front (alone_and_more option operands mode alone some)
 
--- there is no word behind `--window`
-pub IsWordsFault-early : (operands : List (List ℕ)) → length operands ≡ 0
-    → IsWordsFault (codes "--window" ∷ operands) 1
-IsWordsFault-early operands last =
-    let none : operands ≡ [] = nil_from_length operands last in
-    let at : IsWordsFault (codes "--window" ∷ []) 1 =
-    record { none = λ mode worded. not_one mode worded; begin = Begins-option; stop = inl refl } in
-    rw none at
+pub IsWords-alone : (words : List (List ℕ)) (option : List ℕ) (operands : List (List ℕ))
+    (mode : Mode)
+    → words ≡ option ∷ operands
+    → IsWords mode (option ∷ [])
+    → length operands ≡ 0
+    → IsWords mode words
+IsWords-alone words option operands mode front alone last =
+    let none : operands ≡ [] = nil_from_length operands last in rw (front, none) alone
 
--- the word behind it is no window
-pub IsWordsFault-number : (operands : List (List ℕ)) (number : List ℕ) (more : List (List ℕ))
-    → operands ≡ number ∷ more
-    → ((n : ℕ) → IsWindow n → decimal n ≢ number)
-    → IsWordsFault (codes "--window" ∷ operands) 1
-IsWordsFault-number operands number more second other =
-    let at : IsWordsFault (codes "--window" ∷ number ∷ more) 1 =
-    stops_at (codes "--window" ∷ number ∷ more) 1 Begins-option
-    (λ (b : Begins (codes "--window" ∷ number ∷ [])). not_a_window number b.0 b.1 other b.2) in
-    rw second at
+-- ---- words ask for one mode
 
--- there is a word behind the window
-window_and_more : (window : ℕ) (more : List (List ℕ)) → 0 < length more → IsWindow window
-    → IsWordsFault (codes "--window" ∷ decimal window ∷ more) 2
-window_and_more window [] some fits = absurd (omega (arith, some))
-window_and_more window (third ∷ rest) some fits =
-    stops_at (codes "--window" ∷ decimal window ∷ third ∷ rest) 2 (Begins-window window fits)
-    (λ (b : Begins (codes "--window" ∷ decimal window ∷ third ∷ [])).
-    not_three (decimal window) third b.0 b.1 b.2)
+same_script : (words : List (List ℕ)) (a b : ScriptKind) (m n : ℕ)
+    → IsWords (Mode.Script a m) words → IsWords (Mode.Script b n) words
+    → (kind_words a ≡ kind_words b) × (m ≡ n)
+same_script words a b m n (inl first) (inl second) =
+    (sym first.0 ∙ second.0, first.1 ∙ sym second.1)
+same_script words a b m n (inl first) (inr second) =
+    absurd (kind_is_not_window a _ (sym first.0 ∙ second.0))
+same_script words a b m n (inr first) (inl second) =
+    absurd (kind_is_not_window b _ (sym second.0 ∙ first.0))
+same_script words a b m n (inr first) (inr second) =
+    let e = sym first.0 ∙ second.0 in (
+      cc e,
+      decimal_injective m n (omega (arith, first.1)) (omega (arith, second.1)) (cc e),
+    )
 
-pub IsWordsFault-more : (operands : List (List ℕ)) (number : List ℕ) (more : List (List ℕ))
-    (window : ℕ)
-    → operands ≡ number ∷ more
-    → 0 < length more
-    → IsWindow window
-    → decimal window ≡ number
-    → IsWordsFault (codes "--window" ∷ operands) 2
-IsWordsFault-more operands number more window second some fits spelled =
-    rw (second, ← spelled) (window_and_more window more some fits)
+script_is_not_show : (words : List (List ℕ)) (a : ScriptKind) (m : ℕ)
+    → IsWords (Mode.Script a m) words → words ≢ codes "--show" ∷ []
+script_is_not_show words a m (inl told) e = kind_is_not_show a [] (sym told.0 ∙ e)
+script_is_not_show words a m (inr told) e = absurd (cc (told.0, e))
 
--- words ask for one mode
+script_is_not_gen : (words : List (List ℕ)) (a : ScriptKind) (m : ℕ) (rest : List (List ℕ))
+    → IsWords (Mode.Script a m) words → words ≢ codes "--gen" ∷ rest
+script_is_not_gen words a m rest (inl told) e = kind_is_not_gen a rest (sym told.0 ∙ e)
+script_is_not_gen words a m rest (inr told) e =
+    let same : codes "--gen" ≡ codes "--window" = cc (told.0, e) in gen_is_not_window same
+
 pub IsWords-unique : (words : List (List ℕ)) (a b : Mode) → IsWords a words → IsWords b words
     → a ≡ b
-IsWords-unique words (Mode.Plain m) (Mode.Plain n) (inl first) (inl second) =
-    ap Mode.Plain (first.1 ∙ sym second.1)
-IsWords-unique words (Mode.Plain m) (Mode.Plain n) (inl first) (inr second) =
-    absurd (cc (first.0, second.0))
-IsWords-unique words (Mode.Plain m) (Mode.Plain n) (inr first) (inl second) =
-    absurd (cc (first.0, second.0))
-IsWords-unique words (Mode.Plain m) (Mode.Plain n) (inr first) (inr second) =
-    ap Mode.Plain
-    (decimal_injective m n (omega (arith, first.1)) (omega (arith, second.1))
-    (cc (first.0, second.0)))
-IsWords-unique words (Mode.Plain m) Mode.Show (inl first) second = absurd (cc (first.0, second))
-IsWords-unique words (Mode.Plain m) Mode.Show (inr first) second = absurd (cc (first.0, second))
-IsWords-unique words Mode.Show (Mode.Plain n) first (inl second) = absurd (cc (first, second.0))
-IsWords-unique words Mode.Show (Mode.Plain n) first (inr second) = absurd (cc (first, second.0))
+IsWords-unique words (Mode.Script a m) (Mode.Script b n) first second =
+    let same = same_script words a b m n first second in
+    let kinds : a ≡ b = same_kind a b same.0 in
+    ap (λ (k : ScriptKind). Mode.Script k m) kinds ∙ ap (λ (w : ℕ). Mode.Script b w) same.1
+IsWords-unique words (Mode.Script a m) Mode.Show first second =
+    absurd (script_is_not_show words a m first second)
+IsWords-unique words (Mode.Script a m) (Mode.Gen k n) first second =
+    absurd (script_is_not_gen words a m _ first second.0)
+IsWords-unique words Mode.Show (Mode.Script b n) first second =
+    absurd (script_is_not_show words b n second first)
 IsWords-unique words Mode.Show Mode.Show first second = refl
-IsWords-unique words (Mode.Plain m) (Mode.Gen k n) (inl first) second =
-    absurd (cc (first.0, second.0))
-IsWords-unique words (Mode.Plain m) (Mode.Gen k n) (inr first) second =
-    let same : codes "--gen" ≡ codes "--window" = cc (first.0, second.0) in
-    absurd (gen_is_not_window same)
 IsWords-unique words Mode.Show (Mode.Gen k n) first second = absurd (cc (first, second.0))
-IsWords-unique words (Mode.Gen k n) (Mode.Plain m) first (inl second) =
-    absurd (cc (first.0, second.0))
-IsWords-unique words (Mode.Gen k n) (Mode.Plain m) first (inr second) =
-    let same : codes "--gen" ≡ codes "--window" = cc (first.0, second.0) in
-    absurd (gen_is_not_window same)
+IsWords-unique words (Mode.Gen k n) (Mode.Script b m) first second =
+    absurd (script_is_not_gen words b m _ second first.0)
 IsWords-unique words (Mode.Gen k n) Mode.Show first second = absurd (cc (first.0, second))
 IsWords-unique words (Mode.Gen k n) (Mode.Gen i j) first second =
     let rounds : k ≡ i =
@@ -226,9 +236,10 @@ IsWords-unique words (Mode.Gen k n) (Mode.Gen i j) first second =
     (cc (first.0, second.0)) in
     rw (rounds, starts) refl
 
--- the window that words ask for is in range
+-- the numbers that words ask for are in range
 pub IsMode-words : (words : List (List ℕ)) (mode : Mode) → IsWords mode words → IsMode mode
-IsMode-words words (Mode.Plain window) (inl none) = (omega (arith, none.1), omega (arith, none.1))
-IsMode-words words (Mode.Plain window) (inr told) = told.1
+IsMode-words words (Mode.Script kind window) (inl told) =
+    (omega (arith, told.1), omega (arith, told.1))
+IsMode-words words (Mode.Script kind window) (inr told) = told.1
 IsMode-words words Mode.Show told = tt
 IsMode-words words (Mode.Gen rounds start) told = told.1

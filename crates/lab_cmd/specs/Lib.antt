@@ -1,4 +1,5 @@
 pub mod Inputs
+pub mod Laws
 pub mod Meanings
 pub mod Script
 pub mod Statuses

@@ -7,13 +7,21 @@ use Rattle.chan_io.specs.Sinks.{Output, Writes, WritesPart}
 use Rattle.chan_io.specs.Sources.{Input}
 use Rattle.lab_gen.specs.Counts.{counts_line, counts_of}
 use Rattle.lab_gen.specs.Generator.{generated}
+use Rattle.lab_relay.specs.Run.{report as relay_report, run as relay_run}
 use Rattle.lab_run.specs.Run.{report, run}
 use Rattle.lab_run.specs.Steps.{world_of}
+use Rattle.lab_script.specs.Command.{IsCommand, IsScriptLine, spelling}
 use Rattle.lab_script.specs.declared.command.Command.{Command}
+use Rattle.lab_script.specs.declared.relay_command.RelayCommand.{RelayCommand}
+use Rattle.lab_script.specs.declared.stream_command.StreamCommand.{StreamCommand}
 use Rattle.lab_script.specs.Lines.{lines_of}
+use Rattle.lab_script.specs.RelayCommand.{IsRelayCommand, IsRelayLine, relay_spelling}
+use Rattle.lab_script.specs.StreamCommand.{IsStreamCommand, IsStreamLine, stream_spelling}
 use Rattle.lab_show.specs.Lines.{show_lines}
+use Rattle.lab_streams.specs.Run.{stream_report, stream_run}
 use Rattle.lab_cmd.specs.declared.status.Status.{Status}
 use Rattle.lab_cmd.specs.declared.words.Mode.{Mode}
+use Rattle.lab_cmd.specs.declared.words.ScriptKind.{ScriptKind}
 use Rattle.lab_cmd.specs.Inputs.{IsLonger, ReadToEnd, max_input}
 use Rattle.lab_cmd.specs.Script.{IsFirstBad, IsScript}
 use Rattle.lab_cmd.specs.Words.{IsWords, IsWordsFault}
@@ -41,11 +49,31 @@ abbrev pub beside : Option Input → ℕ → Option Output → ℕ → Outside
 beside input reads output writes =
     record { input = input; reads_failed = reads; output = output; writes_failed = writes }
 
+-- what is written of an input that is a script of this kind: its report
+abbrev pub Reports : ScriptKind → ℕ → List ℕ → List ℕ → Type 0
+Reports ScriptKind.Plain window input text =
+    (commands : List Command)
+    × IsScript spelling IsCommand commands input
+    × (text ≡ report (run window commands))
+Reports ScriptKind.Streams window input text =
+    (commands : List StreamCommand)
+    × IsScript stream_spelling IsStreamCommand commands input
+    × (text ≡ stream_report (stream_run window commands))
+Reports ScriptKind.Relay window input text =
+    (commands : List RelayCommand)
+    × IsScript relay_spelling IsRelayCommand commands input
+    × (text ≡ relay_report (relay_run window commands))
+
+-- a line of the grammar of this kind
+abbrev pub IsLine : ScriptKind → List ℕ → Type 0
+IsLine ScriptKind.Plain line = IsScriptLine line
+IsLine ScriptKind.Streams line = IsStreamLine line
+IsLine ScriptKind.Relay line = IsRelayLine line
+
 -- what a mode writes of an input, and the status that comes then: the report of a script, or the lines
 -- of a capture up to its end or its fault
 abbrev pub Outputs : Mode → List ℕ → Status → List ℕ → Type 0
-Outputs (Mode.Plain window) input Status.Ok text =
-    (commands : List Command) × IsScript commands input × (text ≡ report (run window commands))
+Outputs (Mode.Script kind window) input Status.Ok text = Reports kind window input text
 Outputs Mode.Show input Status.Ok text =
     (messages : List Message) × IsCapture input messages None × (text ≡ show_lines 0 messages)
 Outputs Mode.Show input (Status.BadCapture fault) text =
@@ -55,7 +83,7 @@ Outputs mode input status text = ⊥
 
 -- line n of an input is the first that is out of the grammar; only a script has lines
 abbrev pub HasBadLine : Mode → ℕ → List ℕ → Type 0
-HasBadLine (Mode.Plain window) n input = IsFirstBad n (lines_of input)
+HasBadLine (Mode.Script kind window) n input = IsFirstBad (IsLine kind) n (lines_of input)
 HasBadLine Mode.Show n input = ⊥
 HasBadLine (Mode.Gen rounds start) n input = ⊥
 

@@ -2,6 +2,7 @@
 use Rattle.std.specs.Prelude.{◌≡◌, ℕ, ◌+◌, ◌^◌, ◌<◌, ◌≤◌, ◌⊎◌, List, [], ◌∷◌, ◌++◌, length, take, codes, decimal, ⊤}
 use Rattle.chan_values.specs.Limits.{max_window}
 use Rattle.lab_cmd.specs.declared.words.Mode.{Mode}
+use Rattle.lab_cmd.specs.declared.words.ScriptKind.{ScriptKind}
 
 -- a window of the ends has 1 to 10,000 messages
 abbrev pub IsWindow : ℕ → Type 0
@@ -13,9 +14,15 @@ IsRounds rounds = (1 ≤ rounds) × (rounds ≤ 1000000)
 
 -- the numbers of a mode are in range
 abbrev pub IsMode : Mode → Type 0
-IsMode (Mode.Plain window) = IsWindow window
+IsMode (Mode.Script kind window) = IsWindow window
 IsMode Mode.Show = ⊤
 IsMode (Mode.Gen rounds start) = IsRounds rounds
+
+-- the word that names a kind of script; a plain one has none
+abbrev pub kind_words : ScriptKind → List (List ℕ)
+kind_words ScriptKind.Plain = []
+kind_words ScriptKind.Streams = codes "--streams" ∷ []
+kind_words ScriptKind.Relay = codes "--relay" ∷ []
 
 -- the words are these, and the window is 10,000; or `--window` and the window stand before these
 abbrev pub AsksWindow : ℕ → List (List ℕ) → List (List ℕ) → Type 0
@@ -25,12 +32,16 @@ AsksWindow window more words =
 
 -- the words are a command line of this mode
 abbrev pub IsWords : Mode → List (List ℕ) → Type 0
-IsWords (Mode.Plain window) words = AsksWindow window [] words
+IsWords (Mode.Script kind window) words = AsksWindow window (kind_words kind) words
 IsWords Mode.Show words = words ≡ codes "--show" ∷ []
 IsWords (Mode.Gen rounds start) words =
     (words ≡ codes "--gen" ∷ decimal rounds ∷ decimal start ∷ [])
     × IsRounds rounds
     × (start < 2 ^ 64)
+
+-- no mode is asked for by this word alone
+abbrev pub IsNoOption : List ℕ → Type 0
+IsNoOption word = (mode : Mode) → ¬ IsWords mode (word ∷ [])
 
 -- some words more make a command line of these
 abbrev pub Begins : List (List ℕ) → Type 0

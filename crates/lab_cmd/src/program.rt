@@ -3,11 +3,11 @@
 ghost use Rattle.std.specs.Prelude.{◌≡◌, ◌+◌, ◌≤◌, ◌⊎◌, ◌↔◌, ℕ, Option, Some};
 ghost use Rattle.chan_io.specs.Faults.{Rises};
 ghost use Rattle.chan_io.specs.Sources.{Input};
-ghost use Rattle.lab_gen.specs.Laws.{GeneratedLaws};
-ghost use Rattle.lab_run.specs.Laws.{ScriptLaws};
 ghost use Rattle.lab_cmd.specs.declared.status.Status.{Status};
 ghost use Rattle.lab_cmd.specs.declared.words.Mode.{Mode};
+ghost use Rattle.lab_cmd.specs.declared.words.ScriptKind.{ScriptKind};
 ghost use Rattle.lab_cmd.specs.Inputs.{GivesAtMost, max_input};
+ghost use Rattle.lab_cmd.specs.Laws.{LabLaws};
 ghost use Rattle.lab_cmd.specs.Meanings.{IsDue, Means, MeansMade, MeansRead, beside, made_line, outside};
 ghost use Rattle.lab_cmd.specs.Statuses.{status_of};
 ghost use Rattle.lab_cmd.specs.Words.{IsMode, IsRounds, IsWindow, IsWords, IsWordsFault};
@@ -15,11 +15,11 @@ ghost use Rattle.lab_cmd.specs.Words.{IsMode, IsRounds, IsWindow, IsWords, IsWor
 use crate::input::read_input;
 use crate::script::read_script;
 use crate::status::Status;
-use crate::words::{Mode, read_words};
+use crate::words::{Mode, ScriptKind, read_words};
 use chan_io::{Sink, Source};
 use chan_values::Word;
 use lab_gen::run_generated;
-use lab_run::run;
+use lab_script::{Command, RelayCommand, StreamCommand};
 use lab_show::show;
 use std::alloc::Global;
 
@@ -48,8 +48,7 @@ pub fn lab<S: Source, K: Sink>(
         → ¬ Rises (S.faults source.old) (S.faults source.new)
         → ¬ Rises (K.faults sink.old) (K.faults sink.new)
         → (result ≡ due) ⊎ (result ≡ Status.NoMemory) }
-    ensures laws { ScriptLaws }
-    ensures generated { GeneratedLaws }
+    ensures laws { LabLaws }
     ensures bounded { GivesAtMost (max_input + 1) (S.input source.old) (S.input source.new) }
     ensures reads_counted { S.faults source.old ≤ S.faults source.new }
     ensures writes_counted { K.faults sink.old ≤ K.faults sink.new }
@@ -79,9 +78,9 @@ fn run_mode<S: Source, K: Sink>(
     ensures writes_counted { K.faults sink.old ≤ K.faults sink.new }
 {
     match mode {
-        Mode::Plain { window } => {
+        Mode::Script { kind, window } => {
             let input = read_input(alloc, source)?;
-            report(alloc, window, &input, sink)
+            report(alloc, kind, window, &input, sink)
         }
         Mode::Show => {
             let input = read_input(alloc, source)?;
@@ -91,15 +90,75 @@ fn run_mode<S: Source, K: Sink>(
     }
 }
 
-/// Writes the report of the script that the input is, run on two ends with this window.
-fn report<K: Sink>(alloc: Global, window: u64, input: &[u8], sink: &mut K) -> Result<(), Status>
+/// Writes the report of the script of this kind that the input is, run on two ends with this window.
+fn report<K: Sink>(
+    alloc: Global,
+    kind: ScriptKind,
+    window: u64,
+    input: &[u8],
+    sink: &mut K,
+) -> Result<(), Status>
     requires { IsWindow window }
-    ensures means { MeansRead (Mode.Plain window) input.now (status_of result) (sink.new ≡ sink.old)
+    ensures means { MeansRead (Mode.Script kind window) input.now (status_of result)
+        (sink.new ≡ sink.old)
         (K.output sink.old) (K.faults sink.old) (K.output sink.new) (K.faults sink.new) }
     ensures counted { K.faults sink.old ≤ K.faults sink.new }
 {
-    let commands = read_script(alloc, input)?;
-    run(alloc, window, commands, sink)?;
+    match kind {
+        ScriptKind::Plain => report_plain(alloc, window, input, sink),
+        ScriptKind::Streams => report_streams(alloc, window, input, sink),
+        ScriptKind::Relay => report_relayed(alloc, window, input, sink),
+    }
+}
+
+fn report_plain<K: Sink>(
+    alloc: Global,
+    window: u64,
+    input: &[u8],
+    sink: &mut K,
+) -> Result<(), Status>
+    requires { IsWindow window }
+    ensures means { MeansRead (Mode.Script ScriptKind.Plain window) input.now (status_of result)
+        (sink.new ≡ sink.old)
+        (K.output sink.old) (K.faults sink.old) (K.output sink.new) (K.faults sink.new) }
+    ensures counted { K.faults sink.old ≤ K.faults sink.new }
+{
+    let commands: Vec<Command> = read_script(alloc, input)?;
+    lab_run::run(alloc, window, commands, sink)?;
+    Ok(())
+}
+
+fn report_streams<K: Sink>(
+    alloc: Global,
+    window: u64,
+    input: &[u8],
+    sink: &mut K,
+) -> Result<(), Status>
+    requires { IsWindow window }
+    ensures means { MeansRead (Mode.Script ScriptKind.Streams window) input.now (status_of result)
+        (sink.new ≡ sink.old)
+        (K.output sink.old) (K.faults sink.old) (K.output sink.new) (K.faults sink.new) }
+    ensures counted { K.faults sink.old ≤ K.faults sink.new }
+{
+    let commands: Vec<StreamCommand> = read_script(alloc, input)?;
+    lab_streams::run(alloc, window, commands, sink)?;
+    Ok(())
+}
+
+fn report_relayed<K: Sink>(
+    alloc: Global,
+    window: u64,
+    input: &[u8],
+    sink: &mut K,
+) -> Result<(), Status>
+    requires { IsWindow window }
+    ensures means { MeansRead (Mode.Script ScriptKind.Relay window) input.now (status_of result)
+        (sink.new ≡ sink.old)
+        (K.output sink.old) (K.faults sink.old) (K.output sink.new) (K.faults sink.new) }
+    ensures counted { K.faults sink.old ≤ K.faults sink.new }
+{
+    let commands: Vec<RelayCommand> = read_script(alloc, input)?;
+    lab_relay::run(alloc, window, commands, sink)?;
     Ok(())
 }
 

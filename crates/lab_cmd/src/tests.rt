@@ -2,8 +2,10 @@
 
 mod ends;
 mod listings;
+mod relayed;
 mod reports;
 mod statuses;
+mod streams;
 
 use crate::{Status, lab};
 use chan_io::{FaultySink, FaultySource};

@@ -1,7 +1,8 @@
 //! The words behind the program's name.
 
-ghost use Rattle.std.specs.Prelude.{◌≡◌, ◌≢◌, ◌∷◌, codes, ℕ, IfOk, IfErr, IfSome, IfNone, decimal};
-ghost use Rattle.lab_cmd.specs.Words.{IsRounds, IsWindow, IsWords, IsWordsFault};
+ghost use Rattle.std.specs.Prelude.{◌≡◌, ◌≢◌, ◌∷◌, [], codes, ℕ, IfOk, IfErr, IfSome, IfNone, decimal};
+ghost use Rattle.lab_cmd.specs.declared.words.ScriptKind.{ScriptKind};
+ghost use Rattle.lab_cmd.specs.Words.{IsNoOption, IsRounds, IsWindow, IsWords, IsWordsFault, kind_words};
 
 use chan_values::{MAX_WINDOW, Word};
 use lab_gen::MAX_ROUNDS;
@@ -10,11 +11,22 @@ use lab_script::read_number;
 /// The window of both ends where no word says another.
 const DEFAULT_WINDOW: u64 = 10_000;
 
+/// What the lines of a script are about.
+#[derive(Clone, Copy, Debug, PartialEq, Eq)]
+pub enum ScriptKind {
+    /// Two ends of the channel.
+    Plain,
+    /// Two ends that carry streams.
+    Streams,
+    /// Two ends that reach each other through the relay.
+    Relay,
+}
+
 /// What the words ask the program for.
 #[derive(Clone, Copy, Debug, PartialEq, Eq)]
 pub enum Mode {
-    /// To run the script of the input on two ends with this window.
-    Plain { window: u64 },
+    /// To run the script of the input, which is of this kind, on two ends with this window.
+    Script { kind: ScriptKind, window: u64 },
     /// To list the messages of the capture that the input is.
     Show,
     /// To run a script that makes itself in so many rounds from a start.
@@ -27,7 +39,8 @@ pub fn read_words(words: &[Word]) -> Result<Mode, u64>
     ensures fault { IfErr result (λ k. IsWordsFault words.now k) }
 {
     let Some((option, operands)) = words.split_first() else {
-        return Ok(Mode::Plain {
+        return Ok(Mode::Script {
+            kind: ScriptKind::Plain,
             window: DEFAULT_WINDOW,
         });
     };
@@ -37,13 +50,44 @@ pub fn read_words(words: &[Word]) -> Result<Mode, u64>
     if option.as_str() == "--gen" {
         return read_generated(operands);
     }
-    if option.as_str() != "--show" {
+    let Some(mode) = read_alone(option) else {
         return Err(0);
-    }
+    };
     if !operands.is_empty() {
         return Err(1);
     }
-    Ok(Mode::Show)
+    Ok(mode)
+}
+
+/// The mode that a word asks for alone.
+fn read_alone(option: &Word) -> Option<Mode>
+    ensures found { IfSome result (λ mode. IsWords mode (option.now ∷ [])) }
+    ensures none { IfNone result (IsNoOption option.now) }
+{
+    if option.as_str() == "--show" {
+        return Some(Mode::Show);
+    }
+    let Some(kind) = read_kind(option) else {
+        return None;
+    };
+    Some(Mode::Script {
+        kind,
+        window: DEFAULT_WINDOW,
+    })
+}
+
+/// The kind of script that a word names.
+fn read_kind(word: &Word) -> Option<ScriptKind>
+    ensures found { IfSome result (λ kind. kind_words kind ≡ word.now ∷ []) }
+    ensures none { IfNone result ((kind : ScriptKind) → kind_words kind ≢ word.now ∷ []) }
+{
+    if word.as_str() == "--streams" {
+        return Some(ScriptKind::Streams);
+    }
+    if word.as_str() == "--relay" {
+        return Some(ScriptKind::Relay);
+    }
+    None
 }
 
 /// The mode that `--window` and these words ask for, or the number of words, `--window` among them, that
@@ -55,11 +99,22 @@ fn read_windowed(operands: &[Word]) -> Result<Mode, u64>
     let Some((number, more)) = operands.split_first() else {
         return Err(1);
     };
-    match read_window(number) {
-        None => Err(1),
-        Some(window) if more.is_empty() => Ok(Mode::Plain { window }),
-        Some(_) => Err(2),
+    let Some(window) = read_window(number) else {
+        return Err(1);
+    };
+    let Some((name, rest)) = more.split_first() else {
+        return Ok(Mode::Script {
+            kind: ScriptKind::Plain,
+            window,
+        });
+    };
+    let Some(kind) = read_kind(name) else {
+        return Err(2);
+    };
+    if !rest.is_empty() {
+        return Err(3);
     }
+    Ok(Mode::Script { kind, window })
 }
 
 /// The window that a word says.

@@ -39,6 +39,17 @@ fn a_faulty_command_line_is_told_by_its_place(rt: HostRuntime) -> Result<(), Fai
         ("--show 1", 1),
         ("--show --window 1", 1),
         ("--showing", 0),
+        ("--stream", 0),
+        ("--streams 1", 1),
+        ("--streams --streams", 1),
+        ("--streams --window 5", 1),
+        ("--window 10001 --streams", 1),
+        ("--window 5 --stream", 2),
+        ("--window 5 --streams 1", 3),
+        ("--relay 1", 1),
+        ("--streams --relay", 1),
+        ("--relay --window 5", 1),
+        ("--window 5 --relay --streams", 3),
     ];
     for (line, k) in cases {
         let (status, sink) = run_with(rt.alloc(), line, "put P 1 61\n")?;

@@ -1,4 +1,4 @@
-use Rattle.std.proofs.Common.{Option, refl, subst, sym, arith, rules}
+use Rattle.std.proofs.Common.{Option, refl, subst, sym, rules}
 use Rattle.chan_io.specs.Sources.{Input, Reads}
 use Rattle.lab_cmd.specs.Inputs.{GivesAtMost}
 use Rattle.lab_cmd.proofs.Reading.{ReadSome-none, same_at_end, GivesAtMost-read}

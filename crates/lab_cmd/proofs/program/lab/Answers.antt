@@ -1,7 +1,10 @@
-use Rattle.std.proofs.Common.{◌≡◌, inl, inr, ap, subst}
+use Rattle.std.proofs.Common.{◌≡◌, inl, ap, subst}
 use Rattle.lab_run.proofs.LawLemmas.{script_laws}
 use Rattle.lab_gen.proofs.LawLemmas.{generated_laws}
+use Rattle.lab_relay.proofs.SoundLemmas.{relay_laws}
+use Rattle.lab_streams.proofs.LawLemmas.{stream_laws}
 use Rattle.lab_cmd.specs.declared.status.Status.{Status}
+use Rattle.lab_cmd.specs.Laws.{LabLaws}
 use Rattle.lab_cmd.specs.Meanings.{outside}
 use Rattle.lab_cmd.specs.Words.{IsWordsFault}
 use Rattle.lab_cmd.proofs.DueLemmas.{IsDue-unique, IsWordsFault-unique}
@@ -9,23 +12,24 @@ use Rattle.lab_cmd.proofs.MeaningLemmas.{due_from_means}
 use Rattle.lab_cmd.proofs.WordLemmas.{IsMode-words, IsWords-unique}
 use Rattle.lab_cmd.proofs.program.lab.Goals as goal
 
+-- the laws of every script
+all_laws : LabLaws
+all_laws =
+    record {
+      scripts = script_laws;
+      streams = stream_laws;
+      relayed = relay_laws;
+      generated = generated_laws;
+    }
+
 pub returns-in-Err-clause-laws : goal.returns-in-Err-clause-laws
-returns-in-Err-clause-laws g c = script_laws
+returns-in-Err-clause-laws g c = all_laws
 
 pub returns-in-Ok-run_mode-clause-laws : goal.returns-in-Ok-run_mode-clause-laws
-returns-in-Ok-run_mode-clause-laws g c = script_laws
+returns-in-Ok-run_mode-clause-laws g c = all_laws
 
 pub returns-in-Err-run_mode-clause-laws : goal.returns-in-Err-run_mode-clause-laws
-returns-in-Err-run_mode-clause-laws g c = script_laws
-
-pub returns-in-Err-clause-generated : goal.returns-in-Err-clause-generated
-returns-in-Err-clause-generated g c = generated_laws
-
-pub returns-in-Ok-run_mode-clause-generated : goal.returns-in-Ok-run_mode-clause-generated
-returns-in-Ok-run_mode-clause-generated g c = generated_laws
-
-pub returns-in-Err-run_mode-clause-generated : goal.returns-in-Err-run_mode-clause-generated
-returns-in-Err-run_mode-clause-generated g c = generated_laws
+returns-in-Err-run_mode-clause-laws g c = all_laws
 
 -- the words are no command line
 

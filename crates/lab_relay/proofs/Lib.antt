@@ -1,0 +1,16 @@
+pub mod OwnedLemmas
+pub mod HubLemmas
+pub mod LetterLemmas
+pub mod OwnMessageLemmas
+pub mod GreetingLemmas
+pub mod WorldLemmas
+pub mod SceneLemmas
+pub mod PostLemmas
+pub mod ComingLemmas
+pub mod HearLemmas
+pub mod InboxLemmas
+pub mod TakeLemmas
+pub mod VerbLemmas
+pub mod HeardLemmas
+pub mod RunLemmas
+pub mod SoundLemmas

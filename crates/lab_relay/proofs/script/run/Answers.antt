@@ -1,0 +1,82 @@
+use Rattle.std.proofs.Common.{◌≡◌, ℕ, List, [], ◌∷◌, ◌++◌, sym, ap, subst, ◌∙◌, append_assoc, append-nil}
+use Rattle.std.proofs.lemmas.List.{nil_from_length}
+use Rattle.std.proofs.lemmas.Result.{err_from_is_err_and}
+use Rattle.std.specs.Vec.Iter.{into_iter_items}
+use Rattle.lab_script.specs.declared.relay_command.RelayCommand.{RelayCommand}
+use Rattle.lab_run.specs.Printing.{Prints, Stops, printout}
+use Rattle.lab_run.proofs.WritingLemmas.{Prints-emptied, Prints-then, Stops-at}
+use Rattle.lab_relay.specs.Run.{progress, report, run}
+use Rattle.lab_relay.proofs.RunLemmas.{Runs-none, Runs-push, Runs-stops}
+use Rattle.lab_relay.proofs.script.run.Goals as goal
+
+pub loop-command-init : goal.loop-command-init
+loop-command-init g c =
+    record {
+      split = c.into_iter-command-iterator.ensures.into_iter_gives.0;
+      runs = rw c.new-printer.ensures
+          (Runs-none c.args.window c.in_ok-relayed.relayed _ c.in_ok-relayed.ensures);
+    }
+
+pub loop-command-preserved : goal.loop-command-preserved
+loop-command-preserved g c =
+    let w = c.args.window in
+    let xs : List RelayCommand = c.loop-command.yielded in
+    let command = c.in-Some.command in
+    let inv = c.loop-command.invariant in
+    let scene = (progress w xs).scene in
+    record {
+      split =
+          append_assoc xs (command ∷ []) (into_iter_items c.next.new.self)
+          ∙ ap (λ (cs : List RelayCommand). xs ++ cs) (sym c.in-Some.ensures.steps.0)
+          ∙ inv.split;
+      runs =
+          Runs-push w xs command c.loop-command.moment _ c.loop-command.line _ _ _ _ _ inv.runs
+          c.in_ok-moment.ensures.moment
+          (c.in_ok-moment.ensures.made w scene inv.runs.scene)
+          (c.in_ok-moment.ensures.printed w scene inv.runs.scene);
+    }
+
+pub returns-in_err-moment : goal.returns-in_err-moment
+returns-in_err-moment g c =
+    let err =
+    err_from_is_err_and c.from_residual-in_err-moment.result
+    c.from_residual-in_err-moment.ensures.1 in
+    let w = c.args.window in
+    let xs : List RelayCommand = c.loop-command.yielded in
+    let command = c.in-Some.command in
+    let inv = c.loop-command.invariant in
+    let rest = into_iter_items c.next.new.self in
+    let split : (xs ++ command ∷ []) ++ rest ≡ c.args.commands.items =
+    append_assoc xs (command ∷ []) rest
+    ∙ ap (λ (cs : List RelayCommand). xs ++ cs) (sym c.in-Some.ensures.steps.0)
+    ∙ inv.split in
+    let at = printout g.K.Sink.output g.K.Sink.faults in
+    let old = at [] c.args.sink.now in
+    let new = at c.follow.new.printer c.follow.new.sink in
+    let stop = c.in_err-moment.field-0.0 in
+    let stops =
+    Runs-stops w xs command rest c.loop-command.moment c.loop-command.line _ stop old _ new inv.runs
+    (c.in_err-moment.ensures.printed w (progress w xs).scene inv.runs.scene) in
+    let P : List RelayCommand → Type 0 = λ cs. Stops (report (run w cs)) stop old new in
+    rw (err.1, err.2) (Stops-at _ stop old new [] (subst P split stops))
+
+pub returns : goal.returns
+returns g c =
+    let w = c.args.window in
+    let xs : List RelayCommand = c.loop-command.yielded in
+    let inv = c.loop-command.invariant in
+    let rest = c.loop-command.command-iterator.rest in
+    let none : into_iter_items c.loop-command.command-iterator ≡ [] =
+    nil_from_length rest.items (sym rest.ok.0 ∙ c.in-None.ensures.steps.0) in
+    let all : xs ≡ c.args.commands.items =
+    sym (append-nil xs) ∙ ap (λ (cs : List RelayCommand). xs ++ cs) (sym none) ∙ inv.split in
+    let at = printout g.K.Sink.output g.K.Sink.faults in
+    let old = at [] c.args.sink.now in
+    let new = at c.flush.new.self c.flush.new.sink in
+    let printed =
+    Prints-then (report (run w xs)) [] c.flush.result old _ new inv.runs.printed
+    c.flush.ensures.printed in
+    let P : List ℕ → Type 0 = λ text. Prints text c.flush.result old new in
+    rw (← all)
+    (Prints-emptied (report (run w xs)) c.flush.result old new c.flush.ensures.emptied
+    (subst P (append-nil (report (run w xs))) printed))

@@ -1,0 +1,5 @@
+pub mod Held
+pub mod Laws
+pub mod Run
+pub mod Scene
+pub mod Steps

@@ -1,0 +1,14 @@
+pub mod PastLemmas
+pub mod MuxLemmas
+pub mod CallLemmas
+pub mod EndLemmas
+pub mod ReportLemmas
+pub mod PassLemmas
+pub mod PushLemmas
+pub mod StepLemmas
+pub mod RunLemmas
+pub mod QuietLemmas
+pub mod CarriedLemmas
+pub mod PutLemmas
+pub mod LineLemmas
+pub mod LawLemmas
