@@ -16,7 +16,7 @@ use Rattle.lab_run.specs.Ends.{IsSendable}
 use Rattle.lab_relay.specs.declared.hub.Hub.{Hub}
 use Rattle.lab_relay.specs.declared.relayed.Relayed.{Relayed}
 use Rattle.lab_relay.specs.Held.{Comes, IsHub, StandsFor}
-use Rattle.lab_relay.specs.Scene.{Scene, after_event, lab, last_conn, next_conn}
+use Rattle.lab_relay.specs.Scene.{Scene, after_event, came, lab, last_conn, next_conn}
 use Rattle.lab_relay.specs.Steps.{dialed, finished, greeting_to, plain}
 use Rattle.lab_relay.proofs.HubLemmas.{IsHub-quiet}
 use Rattle.lab_relay.proofs.OwnedLemmas.{AreOwned-opened, AreOwned-quiet, IsNew-opened, IsQuiet, IsQuiet-binary, IsQuiet-end, IsQuiet-gone, opened}
@@ -36,11 +36,11 @@ Coming event line now old new =
 pub StandsFor-dialed : (w : ℕ) (s : Scene) (line now : ℕ) (side : Side) (mid new : Relayed)
     (hub : Hub)
     → StandsFor w (plain w s now line side Action.Open).scene mid
-    → IsHub (s.arrivals ++ opened s.arrivals side ∷ []) hub
-    → Coming (opened s.arrivals side) line now (record mid { hub = hub }) new
+    → IsHub (came s ++ opened (came s) side ∷ []) hub
+    → Coming (opened (came s) side) line now (record mid { hub = hub }) new
     → StandsFor w (dialed w s now line side).scene new
 StandsFor-dialed w s line now side mid new hub made noted coming =
-    let es = s.arrivals in
+    let es = came s in
     let t = (plain w s now line side Action.Open).scene in
     let comes = coming es made.relay (IsNew-opened es side made.owned) noted in
     StandsFor-event w t line now (opened es side) (greeting_to es (next_conn es)) mid new hub made
@@ -51,15 +51,15 @@ module _ (w : ℕ) (s : Scene) (line now : ℕ) (old new : Relayed) (stands : St
   -- an event that lets no connection in
   StandsFor-quiet : (event : Event) (says : ℕ → Incoming)
       → IsQuiet event
-      → IsNew s.arrivals event
+      → IsNew (came s) event
       → (now < 2 ^ 64 → AreTrue s line now event says)
       → Coming event line now old new
       → StandsFor w (after_event s now line event says) new
   StandsFor-quiet event says quiet fresh letters coming =
-      let noted = IsHub-quiet s.arrivals event old.hub quiet stands.hub in
-      let comes = coming s.arrivals stands.relay fresh noted in
+      let noted = IsHub-quiet (came s) event old.hub quiet stands.hub in
+      let comes = coming (came s) stands.relay fresh noted in
       StandsFor-event w s line now event says old new old.hub stands noted
-      (AreOwned-quiet s.arrivals event quiet stands.owned) (letters comes.small) comes
+      (AreOwned-quiet (came s) event quiet stands.owned) (letters comes.small) comes
 
   -- a connection was lost
   pub StandsFor-lost : (conn : ℕ)
@@ -78,7 +78,7 @@ module _ (w : ℕ) (s : Scene) (line now : ℕ) (old new : Relayed) (stands : St
 
   -- an emission came
   pub StandsFor-posted : (side : Side) (conn : ℕ) (out : Outgoing)
-      → last_conn s.arrivals side ≡ Some conn
+      → last_conn (came s) side ≡ Some conn
       → IsSendable side out
       → ((moment : ℕ)
       → WasEmitted (emissions (history_of side s.world))

@@ -1,8 +1,9 @@
 -- What the ends hear of what the relay sends of its own at each event.
-use Rattle.std.proofs.Common.{◌≡◌, ℕ, ◌^◌, ◌<◌, Bool, true, false, cond, nat_eq, Option, Some, None, List, [], ◌∷◌, ◌++◌, inr, refl, sym, ap, subst, ◌∙◌}
+use Rattle.std.proofs.Common.{◌≡◌, ℕ, ◌^◌, ◌<◌, Bool, true, false, cond, nat_eq, Option, Some, None, List, [], ◌∷◌, ◌++◌, Ok, refl, sym, ap, subst, ◌∙◌}
 use Rattle.std.proofs.lemmas.Bool.{eq-eqb, eqb-true}
 use Rattle.chan_values.specs.declared.side.Side.{Side}
 use Rattle.chan_values.specs.Sides.{other}
+use Rattle.channel_core.specs.Arrival.{Arrives}
 use Rattle.channel_core.specs.declared.call.EndCall.{EndCall}
 use Rattle.channel_core.specs.declared.message.Incoming.{Incoming}
 use Rattle.channel_core.specs.declared.message.Outgoing.{Outgoing}
@@ -15,7 +16,7 @@ use Rattle.relay_core.specs.Rooms.{at, dismissal, greeting, holder}
 use Rattle.relay_core.proofs.EventLemmas.{holder-told}
 use Rattle.relay_core.proofs.StandsLemmas.{none-opened}
 use Rattle.lab_run.specs.Steps.{id_of}
-use Rattle.lab_relay.specs.Held.{AreOwned, IsHeardAs}
+use Rattle.lab_relay.specs.Held.{AreOwned}
 use Rattle.lab_relay.specs.Scene.{lab, next_conn}
 use Rattle.lab_relay.proofs.LetterLemmas.{AllSent, sent-append, sent-at}
 use Rattle.lab_relay.proofs.OwnMessageLemmas.{Arrives-closing, Arrives-pause, Arrives-start}
@@ -39,19 +40,19 @@ module _ (z : Side) (line now : ℕ) (small : now < 2 ^ 64) where
 
   module _ (conn : ℕ) where
     abbrev IsGreeted : Bool → ℕ → List ℕ → Type 0
-    IsGreeted ended to bytes = IsHeardAs z bytes (greeted ended (nat_eq to conn))
+    IsGreeted ended to bytes = Arrives z bytes (Ok (greeted ended (nat_eq to conn)))
 
     sent-greeting : (peer : Option ℕ) → ((to : ℕ) → peer ≡ Some to → nat_eq to conn ≡ false)
         → AllSent (IsGreeted false) (greeting conn peer (id_of line) now)
     sent-greeting None apart =
         let new = eq-eqb conn conn refl in (
-          subst (λ b. IsHeardAs z (pause (id_of line) now) (greeted false b)) (sym new)
-              (inr (Arrives-pause z line now small)),
+          subst (λ b. Arrives z (pause (id_of line) now) (Ok (greeted false b))) (sym new)
+              (Arrives-pause z line now small),
           tt,
         )
     sent-greeting (Some to) apart = (
-      subst (λ b. IsHeardAs z (start (id_of line) now) (greeted false b)) (sym (apart to refl))
-          (inr (Arrives-start z line now small)),
+      subst (λ b. Arrives z (start (id_of line) now) (Ok (greeted false b))) (sym (apart to refl))
+          (Arrives-start z line now small),
       tt,
     )
 
@@ -61,7 +62,7 @@ module _ (z : Side) (line now : ℕ) (small : now < 2 ^ 64) where
         (Action.Text conn []
         ∷ cond ended (dismissal lab (id_of line) now conn)
         (at former (λ c. Action.Drop c ∷ []) ++ greeting conn peer (id_of line) now))
-    sent-greetings true former peer apart = (inr (Arrives-closing z line now small), tt)
+    sent-greetings true former peer apart = (Arrives-closing z line now small, tt)
     sent-greetings false former peer apart =
         sent-append (IsGreeted false) (at former (λ c. Action.Drop c ∷ []))
         (greeting conn peer (id_of line) now)
@@ -87,7 +88,7 @@ module _ (z : Side) (line now : ℕ) (small : now < 2 ^ 64) where
 
   pub sent-opened : (es : List Event) (side : Side) → AreOwned es
       → AllSent
-      (λ to bytes. IsHeardAs z bytes (greeted (is_ended es lab) (nat_eq to (next_conn es))))
+      (λ to bytes. Arrives z bytes (Ok (greeted (is_ended es lab) (nat_eq to (next_conn es)))))
       (actions es (id_of line) now (opened es side))
   sent-opened es side owned =
       sent-greetings (next_conn es) (is_ended es lab) (holder side (room_told es lab))
@@ -97,21 +98,21 @@ module _ (z : Side) (line now : ℕ) (small : now < 2 ^ 64) where
   -- ---- a loss and an end
 
   pub sent-gone : (es : List Event) (conn : ℕ)
-      → AllSent (λ to bytes. IsHeardAs z bytes Incoming.Pause)
+      → AllSent (λ to bytes. Arrives z bytes (Ok Incoming.Pause))
       (actions es (id_of line) now (Event.Gone conn))
   sent-gone es conn =
-      sent-at (λ to bytes. IsHeardAs z bytes Incoming.Pause) (peer_of es conn) _
-      (λ to is. (inr (Arrives-pause z line now small), tt))
+      sent-at (λ to bytes. Arrives z bytes (Ok Incoming.Pause)) (peer_of es conn) _
+      (λ to is. (Arrives-pause z line now small, tt))
 
   pub sent-ended : (es : List Event)
-      → AllSent (λ to bytes. IsHeardAs z bytes (Incoming.Closing []))
+      → AllSent (λ to bytes. Arrives z bytes (Ok (Incoming.Closing [])))
       (actions es (id_of line) now (Event.EndSession lab))
   sent-ended es =
-      let Q : ℕ → List ℕ → Type 0 = λ to bytes. IsHeardAs z bytes (Incoming.Closing []) in
+      let Q : ℕ → List ℕ → Type 0 = λ to bytes. Arrives z bytes (Ok (Incoming.Closing [])) in
       let room = room_told es lab in
       sent-append Q (at room.plugin (dismissal lab (id_of line) now))
       (at room.agent (dismissal lab (id_of line) now))
       (sent-at Q room.plugin (dismissal lab (id_of line) now)
-      (λ to is. (inr (Arrives-closing z line now small), tt)))
+      (λ to is. (Arrives-closing z line now small, tt)))
       (sent-at Q room.agent (dismissal lab (id_of line) now)
-      (λ to is. (inr (Arrives-closing z line now small), tt)))
+      (λ to is. (Arrives-closing z line now small, tt)))

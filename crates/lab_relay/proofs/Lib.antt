@@ -13,4 +13,12 @@ pub mod TakeLemmas
 pub mod VerbLemmas
 pub mod HeardLemmas
 pub mod RunLemmas
+pub mod GrowthLemmas
+pub mod ArrivedLemmas
+pub mod SentLemmas
+pub mod IdLemmas
+pub mod SaidLemmas
+pub mod LineLemmas
+pub mod EntryLemmas
+pub mod TrueLemmas
 pub mod SoundLemmas

@@ -16,7 +16,7 @@ use Rattle.lab_script.specs.declared.word.Which.{Which}
 use Rattle.lab_run.specs.Ends.{IsSendable}
 use Rattle.lab_run.specs.Steps.{emission_at, id_of}
 use Rattle.lab_relay.specs.Held.{AreOwned, IsHeardAs, IsHonestLetter}
-use Rattle.lab_relay.specs.Scene.{Letter, Scene, is_of, last_conn, letter_to}
+use Rattle.lab_relay.specs.Scene.{Letter, Scene, came, is_of, last_conn, letter_to}
 use Rattle.lab_relay.proofs.LetterLemmas.{is_of-place, letters-all, sent-forwarded}
 use Rattle.lab_relay.proofs.OwnedLemmas.{IsQuiet-binary, peer-place, place_of-quiet}
 use Rattle.lab_relay.proofs.SceneLemmas.{AreTrue}
@@ -30,30 +30,30 @@ WasEmitted-which sent Which.Last out found now =
     WasEmitted-at sent (length sent - 1) now out found
 
 module _ (s : Scene) (line now : ℕ) (side : Side) (conn : ℕ) (out : Outgoing)
-    (owned : AreOwned s.arrivals) (last : last_conn s.arrivals side ≡ Some conn) where
+    (owned : AreOwned (came s)) (last : last_conn (came s) side ≡ Some conn) where
   abbrev event : Event
   event = Event.Binary conn (encoding side out)
 
   -- the end that it is sent to is the other one
-  receiver : (z : Side) (peer : ℕ) → peer_of s.arrivals conn ≡ Some peer
-      → is_of z (place_of (s.arrivals ++ event ∷ []) peer) ≡ true
+  receiver : (z : Side) (peer : ℕ) → peer_of (came s) conn ≡ Some peer
+      → is_of z (place_of (came s ++ event ∷ []) peer) ≡ true
       → z ≡ other side
   receiver z peer is own =
       is_of-place z (other side)
-      (ap (is_of z) (sym (place_of-quiet s.arrivals event (IsQuiet-binary conn (encoding side out))
-      peer ∙ peer-place s.arrivals side conn peer owned last is))
+      (ap (is_of z) (sym (place_of-quiet (came s) event (IsQuiet-binary conn (encoding side out))
+      peer ∙ peer-place (came s) side conn peer owned last is))
       ∙ own)
 
-  across : (P : Side → Letter → Type 0)
+  pub across : (P : Side → Letter → Type 0)
       → P (other side) (record { bytes = encoding side out; says = incoming_of out })
       → (z : Side)
       → All (P z)
-      (filter_map (letter_to (s.arrivals ++ event ∷ []) (λ to. incoming_of out) z)
-      (actions s.arrivals (id_of line) now event))
+      (filter_map (letter_to (came s ++ event ∷ []) (λ to. incoming_of out) z)
+      (actions (came s) (id_of line) now event))
   across P there z =
-      letters-all (s.arrivals ++ event ∷ []) (λ to. incoming_of out) z (P z)
-      (actions s.arrivals (id_of line) now event)
-      (sent-forwarded _ s.arrivals (id_of line) now conn (encoding side out)
+      letters-all (came s ++ event ∷ []) (λ to. incoming_of out) z (P z)
+      (actions (came s) (id_of line) now event)
+      (sent-forwarded _ (came s) (id_of line) now conn (encoding side out)
       (λ peer is own.
       subst (λ x. P x (record { bytes = encoding side out; says = incoming_of out }))
       (sym (receiver z peer is own)) there))
@@ -63,8 +63,8 @@ module _ (s : Scene) (line now : ℕ) (side : Side) (conn : ℕ) (out : Outgoing
       (EndCall.Heard moment (incoming_of out)))
       → (z : Side)
       → All (IsHonestLetter s.world z)
-      (filter_map (letter_to (s.arrivals ++ event ∷ []) (λ to. incoming_of out) z)
-      (actions s.arrivals (id_of line) now event))
+      (filter_map (letter_to (came s ++ event ∷ []) (λ to. incoming_of out) z)
+      (actions (came s) (id_of line) now event))
   honest-posted was =
       across (IsHonestLetter s.world)
       (λ moment.

@@ -1,10 +1,11 @@
 -- What is kept after a step of an end, and after an event at the relay.
-use Rattle.std.proofs.Common.{◌≡◌, ℕ, ◌^◌, ◌<◌, List, [], ◌∷◌, ◌++◌, map, sym, ap, subst, ◌∙◌, nat_eq}
+use Rattle.std.proofs.Common.{◌≡◌, ℕ, ◌^◌, ◌<◌, List, [], ◌∷◌, ◌++◌, Ok, inr, map, sym, ap, subst, ◌∙◌, nat_eq}
 use Rattle.std.specs.List.{All, filter_map}
 use Rattle.std.proofs.lemmas.List.{map-append}
 use Rattle.std.proofs.lemmas.List.Elements.{All-append, All-nil}
 use Rattle.chan_values.specs.declared.side.Side.{Side}
 use Rattle.chan_values.specs.declared.side.Side.TheVariants.{Plugin, Agent}
+use Rattle.channel_core.specs.Arrival.{Arrives}
 use Rattle.channel_core.specs.declared.message.Incoming.{Incoming}
 use Rattle.relay_core.specs.declared.action.Action.{Action}
 use Rattle.relay_core.specs.declared.event.Event.{Event}
@@ -18,8 +19,9 @@ use Rattle.lab_run.specs.Steps.{Step, events_of, id_of}
 use Rattle.lab_relay.specs.declared.hub.Hub.{Hub}
 use Rattle.lab_relay.specs.declared.relayed.Relayed.{Relayed}
 use Rattle.lab_relay.specs.Held.{AreOwned, Comes, IsHeardAs, IsHonestLetter, IsHub, StandsFor, bytes_for}
-use Rattle.lab_relay.specs.Scene.{Letter, Scene, after_event, lab, letter_to, next_conn, start}
+use Rattle.lab_relay.specs.Scene.{Letter, Scene, after_event, came, lab, letter_to, next_conn, start}
 use Rattle.lab_relay.specs.Steps.{after_step, greeting_to}
+use Rattle.lab_relay.proofs.ArrivedLemmas.{came-push}
 use Rattle.lab_relay.proofs.GreetingLemmas.{greeted-honest, sent-ended, sent-gone, sent-opened}
 use Rattle.lab_relay.proofs.LetterLemmas.{AllSent, letters-all, sent-any, sent-weaker}
 use Rattle.lab_relay.proofs.OwnedLemmas.{AreOwned-nil, opened}
@@ -29,12 +31,12 @@ use Rattle.lab_relay.proofs.WorldLemmas.{honest-longer}
 pub record AreTrue (s : Scene) (line now : ℕ) (event : Event) (says : ℕ → Incoming) : Type 0 where
   pub honest : (side : Side)
       → All (IsHonestLetter s.world side)
-      (filter_map (letter_to (s.arrivals ++ event ∷ []) says side)
-      (actions s.arrivals (id_of line) now event))
+      (filter_map (letter_to (came s ++ event ∷ []) says side)
+      (actions (came s) (id_of line) now event))
   pub heard : (side : Side)
       → All (λ l. IsHeardAs side l.bytes l.says)
-      (filter_map (letter_to (s.arrivals ++ event ∷ []) says side)
-      (actions s.arrivals (id_of line) now event))
+      (filter_map (letter_to (came s ++ event ∷ []) says side)
+      (actions (came s) (id_of line) now event))
 
 -- before the first line
 pub StandsFor-new : (w : ℕ) (new : Relayed)
@@ -82,20 +84,21 @@ StandsFor-step w s step old pair before is =
 pub StandsFor-event : (w : ℕ) (s : Scene) (line now : ℕ) (event : Event) (says : ℕ → Incoming)
     (old new : Relayed) (hub : Hub)
     → StandsFor w s old
-    → IsHub (s.arrivals ++ event ∷ []) hub
-    → AreOwned (s.arrivals ++ event ∷ [])
+    → IsHub (came s ++ event ∷ []) hub
+    → AreOwned (came s ++ event ∷ [])
     → AreTrue s line now event says
-    → Comes s.arrivals event line now (record old { hub = hub }) new
+    → Comes (came s) event line now (record old { hub = hub }) new
     → StandsFor w (after_event s now line event says) new
 StandsFor-event w s line now event says old new hub before noted owned letters comes =
-    let es = s.arrivals ++ event ∷ [] in
+    let es = came s ++ event ∷ [] in
+    let all = came-push s now line event says in
     let more : Side → List Letter =
-    λ side. filter_map (letter_to es says side) (actions s.arrivals (id_of line) now event) in
+    λ side. filter_map (letter_to es says side) (actions (came s) (id_of line) now event) in
     record {
       pair = subst (IsPair w s.world) (sym comes.pair) before.pair;
-      relay = comes.relay;
-      hub = subst (IsHub es) (sym comes.hub) noted;
-      owned = owned;
+      relay = subst (λ xs. Stands new.relay xs) (sym all) comes.relay;
+      hub = subst (λ xs. IsHub xs new.hub) (sym all) (subst (IsHub es) (sym comes.hub) noted);
+      owned = subst AreOwned (sym all) owned;
       inboxes = λ side.
           comes.inboxes says side
           ∙ ap (λ (xs : List (List ℕ)). xs ++ map (λ (l : Letter). l.bytes) (more side))
@@ -113,50 +116,50 @@ StandsFor-event w s line now event says old new hub before noted owned letters c
 
 module _ (s : Scene) (line now : ℕ) (event : Event) (says : ℕ → Incoming) where
   abbrev told : List Action
-  told = actions s.arrivals (id_of line) now event
+  told = actions (came s) (id_of line) now event
 
   -- no end has a part in it
   pub honest-own : ((side : Side) (to : ℕ) (bytes : List ℕ)
       → IsHonestLetter s.world side (record { bytes = bytes; says = says to }))
       → (side : Side)
       → All (IsHonestLetter s.world side)
-      (filter_map (letter_to (s.arrivals ++ event ∷ []) says side) told)
+      (filter_map (letter_to (came s ++ event ∷ []) says side) told)
   honest-own honest side =
-      letters-all (s.arrivals ++ event ∷ []) says side (IsHonestLetter s.world side) told
+      letters-all (came s ++ event ∷ []) says side (IsHonestLetter s.world side) told
       (sent-any _ (λ to bytes own. honest side to bytes) told)
 
   -- what is sent is heard so, whatever end it is sent to
-  heard-own : ((side : Side) → AllSent (λ to bytes. IsHeardAs side bytes (says to)) told)
+  heard-own : ((side : Side) → AllSent (λ to bytes. Arrives side bytes (Ok (says to))) told)
       → (side : Side)
       → All (λ l. IsHeardAs side l.bytes l.says)
-      (filter_map (letter_to (s.arrivals ++ event ∷ []) says side) told)
+      (filter_map (letter_to (came s ++ event ∷ []) says side) told)
   heard-own heard side =
-      letters-all (s.arrivals ++ event ∷ []) says side (λ l. IsHeardAs side l.bytes l.says) told
-      (sent-weaker (λ to bytes. IsHeardAs side bytes (says to)) _
-      (λ to bytes is own. is) told (heard side))
+      letters-all (came s ++ event ∷ []) says side (λ l. IsHeardAs side l.bytes l.says) told
+      (sent-weaker (λ to bytes. Arrives side bytes (Ok (says to))) _
+      (λ to bytes is own. inr is) told (heard side))
 
 module _ (s : Scene) (line now : ℕ) where
   pub honest-opened : (side z : Side)
       → All (IsHonestLetter s.world z)
       (filter_map
-      (letter_to (s.arrivals ++ opened s.arrivals side ∷ [])
-      (greeting_to s.arrivals (next_conn s.arrivals)) z)
-      (actions s.arrivals (id_of line) now (opened s.arrivals side)))
+      (letter_to (came s ++ opened (came s) side ∷ [])
+      (greeting_to (came s) (next_conn (came s))) z)
+      (actions (came s) (id_of line) now (opened (came s) side)))
   honest-opened side =
-      honest-own s line now (opened s.arrivals side)
-      (greeting_to s.arrivals (next_conn s.arrivals))
+      honest-own s line now (opened (came s) side)
+      (greeting_to (came s) (next_conn (came s)))
       (λ z to bytes moment.
-      greeted-honest _ moment (is_ended s.arrivals lab) (nat_eq to (next_conn s.arrivals)))
+      greeted-honest _ moment (is_ended (came s) lab) (nat_eq to (next_conn (came s))))
 
-  pub AreTrue-opened : (side : Side) → now < 2 ^ 64 → AreOwned s.arrivals
-      → AreTrue s line now (opened s.arrivals side)
-      (greeting_to s.arrivals (next_conn s.arrivals))
+  pub AreTrue-opened : (side : Side) → now < 2 ^ 64 → AreOwned (came s)
+      → AreTrue s line now (opened (came s) side)
+      (greeting_to (came s) (next_conn (came s)))
   AreTrue-opened side small owned =
       record {
         honest = honest-opened side;
-        heard = heard-own s line now (opened s.arrivals side)
-            (greeting_to s.arrivals (next_conn s.arrivals))
-            (λ z. sent-opened z line now small s.arrivals side owned);
+        heard = heard-own s line now (opened (came s) side)
+            (greeting_to (came s) (next_conn (came s)))
+            (λ z. sent-opened z line now small (came s) side owned);
       }
 
   pub AreTrue-gone : (conn : ℕ) → now < 2 ^ 64
@@ -166,7 +169,7 @@ module _ (s : Scene) (line now : ℕ) where
         honest = honest-own s line now (Event.Gone conn) (λ to. Incoming.Pause)
             (λ z to bytes moment. tt);
         heard = heard-own s line now (Event.Gone conn) (λ to. Incoming.Pause)
-            (λ z. sent-gone z line now small s.arrivals conn);
+            (λ z. sent-gone z line now small (came s) conn);
       }
 
   pub AreTrue-ended : now < 2 ^ 64
@@ -176,5 +179,5 @@ module _ (s : Scene) (line now : ℕ) where
         honest = honest-own s line now (Event.EndSession lab) (λ to. Incoming.Closing [])
             (λ z to bytes moment. tt);
         heard = heard-own s line now (Event.EndSession lab) (λ to. Incoming.Closing [])
-            (λ z. sent-ended z line now small s.arrivals);
+            (λ z. sent-ended z line now small (came s));
       }

@@ -1,178 +1,40 @@
--- Each line keeps the world of the two ends legal and honest.
-use Rattle.std.proofs.Common.{◌≡◌, ℕ, Option, Some, None, List, [], ◌∷◌, ◌++◌, refl, sym}
-use Rattle.std.specs.List.{All, filter_map, fold}
-use Rattle.std.proofs.lemmas.List.Elements.{All-append, All-nil}
+-- The laws of scripts.
+use Rattle.std.proofs.Common.{◌≡◌, ℕ, true, List, ◌++◌, map, sym, ap, subst, ◌∙◌}
+use Rattle.std.proofs.lemmas.List.Elements.{filter_map-append}
 use Rattle.chan_values.specs.declared.side.Side.{Side}
-use Rattle.channel_core.specs.declared.call.EndCall.{EndCall}
-use Rattle.channel_core.specs.declared.message.Incoming.{Incoming}
-use Rattle.channel_core.specs.declared.message.Outgoing.{Outgoing}
-use Rattle.channel_core.specs.Exchange.{incoming_of}
-use Rattle.channel_core.specs.History.{emissions}
-use Rattle.channel_core.specs.Wire.{encoding}
-use Rattle.channel_core.specs.World.{history_of}
+use Rattle.channel_core.specs.History.{PutMessage, has_ended, put_items}
+use Rattle.channel_core.specs.Legal.{IsLegal}
+use Rattle.channel_core.specs.World.{Event as WorldEvent, entry_at, history_of}
 use Rattle.channel_core.proofs.DeliveryLemmas.{each_number_is_taken_once, released_is_prefix}
+use Rattle.channel_core.proofs.FinishLemmas.{finished_is_once, nothing_follows_the_last}
 use Rattle.channel_core.proofs.WholeLemmas.{finished_is_whole}
-use Rattle.channel_core.proofs.WorldLemmas.{IsRight, IsRight-nil, IsRight-push}
-use Rattle.relay_core.specs.declared.event.Event.{Event}
-use Rattle.relay_core.specs.Forwarding.{actions}
-use Rattle.lab_script.specs.declared.command.Action.{Action}
-use Rattle.lab_script.specs.declared.relay_command.RelayAction.{RelayAction}
+use Rattle.channel_core.proofs.WithinLemmas.{nothing_is_past_the_end}
 use Rattle.lab_script.specs.declared.relay_command.RelayCommand.{RelayCommand}
-use Rattle.lab_script.specs.declared.word.Which.{Which}
-use Rattle.lab_run.specs.Steps.{emission_at, events_of, id_of, step_of}
-use Rattle.lab_run.proofs.EmissionLemmas.{All-emission}
-use Rattle.lab_run.proofs.RightLemmas.{IsRight-step}
-use Rattle.lab_relay.specs.Held.{AreOwned, IsHonestLetter}
 use Rattle.lab_relay.specs.Laws.{IsFaithful, RelayLaws, world_of}
-use Rattle.lab_relay.specs.Run.{Progress, beginning, progress, progress_after, scene_after}
-use Rattle.lab_relay.specs.Scene.{Letter, Scene, after_event, lab, last_conn, letter_to, next_conn, start}
-use Rattle.lab_relay.specs.Steps.{after_loss, dialed, gone, greeting_to, plain, posted, taken, turn_of}
-use Rattle.lab_relay.proofs.OwnedLemmas.{AreOwned-nil, AreOwned-opened, AreOwned-quiet, IsQuiet-binary, IsQuiet-end, IsQuiet-gone, opened}
-use Rattle.lab_relay.proofs.PostLemmas.{WasEmitted-which, honest-posted}
+use Rattle.lab_relay.proofs.GrowthLemmas.{scene-front}
 use Rattle.lab_relay.proofs.RunLemmas.{run-front}
-use Rattle.lab_relay.proofs.SceneLemmas.{honest-opened, honest-own}
-use Rattle.lab_relay.proofs.WorldLemmas.{honest-longer}
+use Rattle.lab_relay.proofs.LineLemmas.{sound-progress}
+use Rattle.lab_relay.proofs.TrueLemmas.{inboxes_are_true}
 
--- the world is legal and honest, the connections are those of their ends, and what the relay sent was
--- emitted at the other end
-record IsSound (w : ℕ) (s : Scene) : Type 0 where
-  right : IsRight w s.world
-  owned : AreOwned s.arrivals
-  honest : (side : Side) → All (IsHonestLetter s.world side) (s.inbox side)
-
-sound-start : (w : ℕ) → IsSound w start
-sound-start w =
-    record { right = IsRight-nil w; owned = AreOwned-nil; honest = λ side. All-nil _ }
-
-sound-plain : (w : ℕ) (s : Scene) (now line : ℕ) (side : Side) (action : Action)
-    → IsSound w s → IsSound w (plain w s now line side action).scene
-sound-plain w s now line side action sound =
-    record {
-      right = IsRight-step w s.world now line side action sound.right;
-      owned = sound.owned;
-      honest = λ z.
-          honest-longer z s.world (events_of (step_of w s.world now line side action ∷ []))
-          (s.inbox z) (sound.honest z);
-    }
-
-sound-event : (w : ℕ) (s : Scene) (now line : ℕ) (event : Event) (says : ℕ → Incoming)
-    → IsSound w s
-    → AreOwned (s.arrivals ++ event ∷ [])
-    → ((z : Side)
-    → All (IsHonestLetter s.world z)
-    (filter_map (letter_to (s.arrivals ++ event ∷ []) says z)
-    (actions s.arrivals (id_of line) now event)))
-    → IsSound w (after_event s now line event says)
-sound-event w s now line event says sound owned honest =
-    record {
-      right = sound.right;
-      owned = owned;
-      honest = λ z.
-          All-append (IsHonestLetter s.world z) (s.inbox z) _ (sound.honest z) (honest z);
-    }
-
-sound-dialed : (w : ℕ) (s : Scene) (now line : ℕ) (side : Side)
-    → IsSound w s → IsSound w (dialed w s now line side).scene
-sound-dialed w s now line side sound =
-    let made = plain w s now line side Action.Open in
-    sound-event w made.scene now line (opened s.arrivals side)
-    (greeting_to s.arrivals (next_conn s.arrivals))
-    (sound-plain w s now line side Action.Open sound)
-    (AreOwned-opened s.arrivals side sound.owned)
-    (honest-opened made.scene line now side)
-
-sound-lost : (w : ℕ) (s : Scene) (now line : ℕ) (conn : ℕ)
-    → IsSound w s
-    → IsSound w (after_event s now line (Event.Gone conn) (λ to. Incoming.Pause))
-sound-lost w s now line conn sound =
-    sound-event w s now line (Event.Gone conn) (λ to. Incoming.Pause) sound
-    (AreOwned-quiet s.arrivals (Event.Gone conn) (IsQuiet-gone conn) sound.owned)
-    (honest-own s line now (Event.Gone conn) (λ to. Incoming.Pause) (λ z to bytes moment. tt))
-
-sound-gone : (w : ℕ) (s : Scene) (now line : ℕ) (side : Side)
-    → IsSound w s → IsSound w (gone w s now line side).scene
-sound-gone w s now line side sound = by (last_conn s.arrivals side)
-  where
-    lost : IsSound w (plain w s now line side Action.Lost).scene
-    lost = sound-plain w s now line side Action.Lost sound
-
-    by : (conn : Option ℕ)
-        → IsSound w (after_loss (plain w s now line side Action.Lost).scene now line conn)
-    by None = lost
-    by (Some conn) = sound-lost w (plain w s now line side Action.Lost).scene now line conn lost
-
-sound-posted : (w : ℕ) (s : Scene) (now line : ℕ) (side : Side) (which : Which)
-    (o : Option ℕ) (emission : Option Outgoing)
-    → IsSound w s
-    → last_conn s.arrivals side ≡ o
-    → emission_at (emissions (history_of side s.world)) which ≡ emission
-    → IsSound w (posted s now line side o emission).scene
-sound-posted w s now line side which o None sound last found = sound
-sound-posted w s now line side which None (Some out) sound last found = sound
-sound-posted w s now line side which (Some conn) (Some out) sound last found =
-    let event = Event.Binary conn (encoding side out) in
-    sound-event w s now line event (λ to. incoming_of out) sound
-    (AreOwned-quiet s.arrivals event (IsQuiet-binary conn (encoding side out)) sound.owned)
-    (honest-posted s line now side conn out sound.owned last
-    (WasEmitted-which (emissions (history_of side s.world)) which out found))
-
-sound-taken : (w : ℕ) (s : Scene) (now line : ℕ) (side : Side) (which : Which)
-    (letter : Option Letter)
-    → IsSound w s
-    → emission_at (s.inbox side) which ≡ letter
-    → IsSound w (taken w s now line side letter).scene
-sound-taken w s now line side which None sound found = sound
-sound-taken w s now line side which (Some letter) sound found =
-    let call = EndCall.Heard now letter.says in
-    let honest =
-    All-emission (IsHonestLetter s.world side) (s.inbox side) which letter (sound.honest side)
-    found in
-    record {
-      right = IsRight-push w s.world side call sound.right (honest now);
-      owned = sound.owned;
-      honest = λ z. honest-longer z s.world _ (s.inbox z) (sound.honest z);
-    }
-
-sound-turn : (w : ℕ) (s : Scene) (now line : ℕ) (side : Side) (action : RelayAction)
-    → IsSound w s → IsSound w (turn_of w s now line side action).scene
-sound-turn w s now line side (RelayAction.Put item) sound =
-    sound-plain w s now line side (Action.Put item) sound
-sound-turn w s now line side (RelayAction.PutLast item) sound =
-    sound-plain w s now line side (Action.PutLast item) sound
-sound-turn w s now line side RelayAction.Pull sound =
-    sound-plain w s now line side Action.Pull sound
-sound-turn w s now line side RelayAction.Tick sound =
-    sound-plain w s now line side Action.Tick sound
-sound-turn w s now line side RelayAction.Close sound =
-    sound-plain w s now line side Action.Close sound
-sound-turn w s now line side RelayAction.Dial sound = sound-dialed w s now line side sound
-sound-turn w s now line side RelayAction.Gone sound = sound-gone w s now line side sound
-sound-turn w s now line side (RelayAction.Post which) sound =
-    sound-posted w s now line side which (last_conn s.arrivals side)
-    (emission_at (emissions (history_of side s.world)) which) sound refl refl
-sound-turn w s now line side (RelayAction.Take which) sound =
-    sound-taken w s now line side which (emission_at (s.inbox side) which) sound refl
-
-sound-after : (w : ℕ) (s : Scene) (now line : ℕ) (command : RelayCommand)
-    → IsSound w s → IsSound w (scene_after w s now line command)
-sound-after w s now line (RelayCommand.At moment) sound = sound
-sound-after w s now line RelayCommand.Finish sound =
-    sound-event w s now line (Event.EndSession lab) (λ to. Incoming.Closing []) sound
-    (AreOwned-quiet s.arrivals (Event.EndSession lab) (IsQuiet-end lab) sound.owned)
-    (honest-own s line now (Event.EndSession lab) (λ to. Incoming.Closing [])
-    (λ z to bytes moment. tt))
-sound-after w s now line (RelayCommand.On side action) sound =
-    sound-turn w s now line side action sound
-
-sound-progress : (w : ℕ) (commands : List RelayCommand) → IsSound w (progress w commands).scene
-unfolding progress
-sound-progress w commands = goes beginning commands (sound-start w)
-  where
-    goes : (p : Progress) (commands : List RelayCommand) → IsSound w p.scene
-        → IsSound w (fold (progress_after w) p commands).scene
-    goes p [] sound = sound
-    goes p (c ∷ cs) sound =
-        goes (progress_after w p c) cs (sound-after w p.scene p.now p.line c sound)
+-- after the last item of a direction nothing is put in there, whatever lines follow
+puts-end : (w : ℕ) (commands rest : List RelayCommand) (side : Side)
+    → let h = history_of side (world_of w commands) in
+    has_ended h ≡ true
+    → put_items (history_of side (world_of w (commands ++ rest))) ≡ put_items h
+unfolding history_of
+puts-end w commands rest side over =
+    let h = history_of side (world_of w commands) in
+    let front = (scene-front w commands rest).world in
+    let more = history_of side front.0 in
+    let joined : history_of side (world_of w (commands ++ rest)) ≡ h ++ more =
+    ap (history_of side) (sym front.1)
+    ∙ filter_map-append (λ (x : WorldEvent). entry_at side x.side x.entry) (world_of w commands)
+    front.0 in
+    let legal : IsLegal w (h ++ more) =
+    subst (IsLegal w) joined ((sound-progress w (commands ++ rest)).right.legal side) in
+    ap put_items joined
+    ∙ ap (λ (l : List PutMessage). map (λ m. m.item) l)
+    (nothing_follows_the_last w h more legal over)
 
 -- every script is faithful
 pub script_is_faithful : (w : ℕ) (commands : List RelayCommand) → IsFaithful w commands
@@ -185,8 +47,11 @@ script_is_faithful w commands =
       once = λ side. each_number_is_taken_once w (history_of side world) (right.legal side);
       prefix = λ side. released_is_prefix w world side right.legal right.honest;
       whole = λ side. finished_is_whole w world side right.legal right.honest;
+      within = λ n. nothing_is_past_the_end w world n right.legal right.honest;
+      finished = λ side. finished_is_once w (history_of side world) (right.legal side);
+      ended = puts-end w commands;
       begins = λ rest. let more = run-front w commands rest in (more.0, sym more.1);
     }
 
 pub relay_laws : RelayLaws
-relay_laws = record { faithful = script_is_faithful }
+relay_laws = record { faithful = script_is_faithful; inboxes = inboxes_are_true }

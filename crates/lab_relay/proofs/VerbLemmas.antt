@@ -18,7 +18,7 @@ use Rattle.lab_script.specs.declared.word.Which.{Which}
 use Rattle.lab_run.specs.Steps.{called, emission_at}
 use Rattle.lab_relay.specs.declared.relayed.Relayed.{Relayed}
 use Rattle.lab_relay.specs.Held.{StandsFor}
-use Rattle.lab_relay.specs.Scene.{Letter, Scene, after_event, lab, last_conn}
+use Rattle.lab_relay.specs.Scene.{Letter, Scene, after_event, came, lab, last_conn}
 use Rattle.lab_relay.specs.Steps.{Turn, after_step, posted, taken, turn_of}
 
 module _ (w : ℕ) (s : Scene) (line now : ℕ) (side : Side) (which : Which) (relayed : Relayed) where
@@ -32,17 +32,17 @@ module _ (w : ℕ) (s : Scene) (line now : ℕ) (side : Side) (which : Which) (r
   pub posted-absent : StandsFor w s relayed → emission ≡ None
       → Leaves Outcome.Absent (turn_of w s now line side (RelayAction.Post which))
   posted-absent stands none =
-      subst (λ o. Leaves Outcome.Absent (posted s now line side (last_conn s.arrivals side) o))
+      subst (λ o. Leaves Outcome.Absent (posted s now line side (last_conn (came s) side) o))
       (sym none) (refl, stands)
 
   pub posted-dropped : (out : Outgoing)
-      → StandsFor w s relayed → emission ≡ Some out → last_conn s.arrivals side ≡ None
+      → StandsFor w s relayed → emission ≡ Some out → last_conn (came s) side ≡ None
       → Leaves (Outcome.Relay RelayOutcome.Dropped)
       (turn_of w s now line side (RelayAction.Post which))
   posted-dropped out stands found none =
       subst
       (λ o. Leaves (Outcome.Relay RelayOutcome.Dropped)
-      (posted s now line side (last_conn s.arrivals side) o))
+      (posted s now line side (last_conn (came s) side) o))
       (sym found)
       (subst
       (λ conn. Leaves (Outcome.Relay RelayOutcome.Dropped) (posted s now line side conn (Some out)))
@@ -50,16 +50,16 @@ module _ (w : ℕ) (s : Scene) (line now : ℕ) (side : Side) (which : Which) (r
 
   pub posted-sent : (out : Outgoing) (conn : ℕ) (outcome : RelayOutcome)
       → emission ≡ Some out
-      → last_conn s.arrivals side ≡ Some conn
+      → last_conn (came s) side ≡ Some conn
       → outcome
-      ≡ cond (is_conn conn (current s.arrivals lab side)) RelayOutcome.Sent RelayOutcome.Dropped
+      ≡ cond (is_conn conn (current (came s) lab side)) RelayOutcome.Sent RelayOutcome.Dropped
       → StandsFor w
       (after_event s now line (Event.Binary conn (encoding side out)) (λ to. incoming_of out)) relayed
       → Leaves (Outcome.Relay outcome) (turn_of w s now line side (RelayAction.Post which))
   posted-sent out conn outcome found last told stands =
       subst
       (λ o. Leaves (Outcome.Relay outcome)
-      (posted s now line side (last_conn s.arrivals side) o))
+      (posted s now line side (last_conn (came s) side) o))
       (sym found)
       (subst
       (λ c. Leaves (Outcome.Relay outcome) (posted s now line side c (Some out)))

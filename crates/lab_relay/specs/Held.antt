@@ -21,7 +21,7 @@ use Rattle.lab_run.specs.Steps.{id_of}
 use Rattle.lab_relay.specs.declared.hub.Hub.{Hub}
 use Rattle.lab_relay.specs.declared.inboxes.Inboxes.{Inboxes}
 use Rattle.lab_relay.specs.declared.relayed.Relayed.{Relayed}
-use Rattle.lab_relay.specs.Scene.{Letter, Scene, lab, last_conn, letter_to, next_conn}
+use Rattle.lab_relay.specs.Scene.{Letter, Scene, came, lab, last_conn, letter_to, next_conn}
 
 -- ---- connections
 
@@ -70,9 +70,9 @@ bytes_for Agent inboxes = inboxes.agent.items
 -- what is kept is what has happened
 pub record StandsFor (w : ℕ) (s : Scene) (relayed : Relayed) : Type 0 where
   pub pair : IsPair w s.world relayed.pair
-  pub relay : Stands relayed.relay s.arrivals
-  pub hub : IsHub s.arrivals relayed.hub
-  pub owned : AreOwned s.arrivals
+  pub relay : Stands relayed.relay (came s)
+  pub hub : IsHub (came s) relayed.hub
+  pub owned : AreOwned (came s)
   pub inboxes : (side : Side)
       → bytes_for side relayed.inboxes ≡ map (λ l. l.bytes) (s.inbox side)
   pub honest : (side : Side) → All (IsHonestLetter s.world side) (s.inbox side)

@@ -1,4 +1,5 @@
 pub mod Held
+pub mod Inboxes
 pub mod Laws
 pub mod Run
 pub mod Scene

@@ -9,6 +9,7 @@ use Rattle.relay_core.specs.declared.action.Action.{Action}
 use Rattle.relay_core.specs.declared.event.Event.{Event as RelayEvent}
 use Rattle.relay_core.specs.declared.place.Place.{Place}
 use Rattle.relay_core.specs.Forwarding.{actions, last_opened, openings, place_of}
+use Rattle.relay_core.specs.Isolation.{Arrival, events_of}
 use Rattle.lab_run.specs.Steps.{id_of}
 
 -- the session of a script
@@ -24,14 +25,18 @@ pub record Letter : Type 0 where
 pub record Scene : Type 0 where
   -- the calls of the two ends with their answers
   pub world : List Event
-  -- what came to the relay
-  pub arrivals : List RelayEvent
+  -- what came to the relay, each event with the id of its line and the moment
+  pub arrivals : List Arrival
   -- the messages that the relay sent to each end, which has heard any of them or none
   pub inbox : Side → List Letter
 
 -- before the first line neither end was called, and nothing came to the relay
 abbrev pub start : Scene
 start = record { world = []; arrivals = []; inbox = λ side. [] }
+
+-- the events that came to the relay
+abbrev pub came : Scene → List RelayEvent
+came s = events_of s.arrivals
 
 -- the number of the next connection: how many were made
 abbrev pub next_conn : List RelayEvent → ℕ
@@ -58,10 +63,10 @@ letter_to es says side action = None
 -- ends. What an end hears of it is told by the connection that it is sent to
 abbrev pub after_event : Scene → ℕ → ℕ → RelayEvent → (ℕ → Incoming) → Scene
 after_event s now line event says =
-    let es = s.arrivals ++ event ∷ [] in
-    let done = actions s.arrivals (id_of line) now event in
+    let es = came s ++ event ∷ [] in
+    let done = actions (came s) (id_of line) now event in
     record {
       world = s.world;
-      arrivals = es;
+      arrivals = s.arrivals ++ record { event = event; id = id_of line; now = now } ∷ [];
       inbox = λ side. s.inbox side ++ filter_map (letter_to es says side) done;
     }

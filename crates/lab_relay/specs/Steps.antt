@@ -18,7 +18,7 @@ use Rattle.lab_script.specs.declared.outcome.RelayOutcome.{RelayOutcome}
 use Rattle.lab_script.specs.declared.relay_command.RelayAction.{RelayAction}
 use Rattle.lab_script.specs.declared.verb.Verb.{Verb}
 use Rattle.lab_run.specs.Steps.{Step, called, emission_at, events_of, step_of}
-use Rattle.lab_relay.specs.Scene.{Letter, Scene, after_event, lab, last_conn, next_conn}
+use Rattle.lab_relay.specs.Scene.{Letter, Scene, after_event, came, lab, last_conn, next_conn}
 
 -- what a line does: what it reports, and what has happened after it
 pub record Turn : Type 0 where
@@ -48,13 +48,13 @@ greeting_to es conn to =
 -- an end has a new connection, which the relay lets in
 abbrev pub dialed : ℕ → Scene → ℕ → ℕ → Side → Turn
 dialed w s now line side =
-    let conn = next_conn s.arrivals in
+    let conn = next_conn (came s) in
     let opened = plain w s now line side Action.Open in
     record {
       outcome = Outcome.Relay (RelayOutcome.Connection conn);
       scene =
           after_event opened.scene now line (events.Opened conn lab side [])
-          (greeting_to s.arrivals conn);
+          (greeting_to (came s) conn);
     }
 
 -- the relay loses the last connection of an end, if there is one
@@ -69,7 +69,7 @@ gone w s now line side =
     let lost = plain w s now line side Action.Lost in
     record {
       outcome = lost.outcome;
-      scene = after_loss lost.scene now line (last_conn s.arrivals side);
+      scene = after_loss lost.scene now line (last_conn (came s) side);
     }
 
 -- an emission comes to the relay from the last connection of its end, if there are both. It was sent
@@ -81,7 +81,7 @@ posted s now line side (Some conn) (Some out) =
     record {
       outcome =
           Outcome.Relay
-          (if is_conn conn (current s.arrivals lab side)
+          (if is_conn conn (current (came s) lab side)
           then RelayOutcome.Sent
           else RelayOutcome.Dropped);
       scene =
@@ -114,7 +114,7 @@ turn_of w s now line side RelayAction.Close = plain w s now line side Action.Clo
 turn_of w s now line side RelayAction.Dial = dialed w s now line side
 turn_of w s now line side RelayAction.Gone = gone w s now line side
 turn_of w s now line side (RelayAction.Post which) =
-    posted s now line side (last_conn s.arrivals side)
+    posted s now line side (last_conn (came s) side)
     (emission_at (emissions (history_of side s.world)) which)
 turn_of w s now line side (RelayAction.Take which) =
     taken w s now line side (emission_at (s.inbox side) which)

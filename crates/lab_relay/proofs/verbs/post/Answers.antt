@@ -6,6 +6,7 @@ use Rattle.relay_core.specs.Forwarding.{current}
 use Rattle.relay_core.specs.Rooms.{is_conn}
 use Rattle.lab_script.specs.declared.outcome.RelayOutcome.{RelayOutcome}
 use Rattle.lab_run.proofs.EmissionLemmas.{IsEmission-found}
+use Rattle.lab_relay.specs.Scene.{came}
 use Rattle.lab_relay.proofs.ComingLemmas.{Coming, StandsFor-posted}
 use Rattle.lab_relay.proofs.InboxLemmas.{endpoint-at}
 use Rattle.lab_relay.proofs.PostLemmas.{WasEmitted-which}
@@ -20,7 +21,7 @@ returns-in_default-last c w s stands =
     IsEmission-found side _ (emissions (history_of side s.world)) c.args.which c.in-Some.bytes.now
     sent.encoded sent.sendable c.in-Some.ensures in
     posted-dropped w s c.args.context.now.line c.args.context.now.moment side c.args.which
-    c.args.relayed.now e.out stands e.found (sym (c.in_default-last.ensures s.arrivals stands.hub))
+    c.args.relayed.now e.out stands e.found (sym (c.in_default-last.ensures (came s) stands.hub))
 
 pub returns : goal.returns
 returns c w s stands =
@@ -35,7 +36,7 @@ returns c w s stands =
     let e =
     IsEmission-found side _ emitted c.args.which c.in-Some.bytes.now sent.encoded sent.sendable
     c.in-Some.ensures in
-    let last = sym (c.in-Some-last.ensures s.arrivals stands.hub) in
+    let last = sym (c.in-Some-last.ensures (came s) stands.hub) in
     let coming =
     subst (λ (x : Event). Coming x line now old new)
     (ap (Event.Binary conn) (c.in_ok-bytes.ensures ∙ e.encoded)) c.in_ok-come.ensures in
@@ -44,8 +45,8 @@ returns c w s stands =
     ∙ ap (λ b. cond b RelayOutcome.Sent RelayOutcome.Dropped)
     (c.is_conn-is_current.ensures
     ∙ ap (is_conn conn)
-    (c.current.ensures s.arrivals stands.relay
-    ∙ ap (λ (name : List ℕ). current s.arrivals name side) c.session.ensures)) in
+    (c.current.ensures (came s) stands.relay
+    ∙ ap (λ (name : List ℕ). current (came s) name side) c.session.ensures)) in
     posted-sent w s line now side c.args.which new e.out conn c.posted.result e.found last told
     (StandsFor-posted w s line now old new stands side conn e.out last e.sendable
     (WasEmitted-which emitted c.args.which e.out e.found) coming)
