@@ -1,39 +1,39 @@
 -- The laws of scripts with streams.
-use Rattle.std.proofs.Common.{◌≡◌, ℕ, ◌+◌, true, false, List, [], ◌∷◌, ◌++◌, refl, sym, ap, subst, ◌∙◌, append-nil}
-use Rattle.std.specs.Prelude.{nat_eq, length}
-use Rattle.std.specs.List.{All, fold}
-use Rattle.std.proofs.lemmas.Bool.{cond_both}
+use Rattle.std.proofs.Common.{◌≡◌, ℕ, ◌+◌, true, false, List, [], ◌∷◌, ◌++◌, length, map, refl, sym, ap, subst, ◌∙◌}
+use Rattle.std.specs.List.{All}
+use Rattle.std.proofs.lemmas.List.Elements.{filter_map-append}
 use Rattle.chan_values.specs.declared.side.Side.{Side}
 use Rattle.chan_values.specs.declared.side.Side.TheVariants.{Plugin, Agent}
 use Rattle.chan_values.specs.Sides.{other}
 use Rattle.channel_core.specs.Exchange.{IsExchange}
-use Rattle.channel_core.specs.History.{is_closed, put_items, released_items}
-use Rattle.channel_core.specs.Legal.{look_at}
-use Rattle.channel_core.specs.World.{Event, history_of}
+use Rattle.channel_core.specs.History.{PutMessage, has_ended, is_closed, put_items, released_items}
+use Rattle.channel_core.specs.Legal.{IsLegal}
+use Rattle.channel_core.specs.World.{Event, entry_at, history_of}
 use Rattle.channel_core.proofs.DeliveryLemmas.{each_number_is_taken_once, released_is_prefix}
 use Rattle.channel_core.proofs.ExchangeLemmas.{exchange_releases_all}
+use Rattle.channel_core.proofs.FinishLemmas.{finished_is_once, nothing_follows_the_last}
 use Rattle.channel_core.proofs.WholeLemmas.{finished_is_whole}
+use Rattle.channel_core.proofs.WithinLemmas.{nothing_is_past_the_end}
 use Rattle.channel_core.proofs.WorldLemmas.{IsRight}
-use Rattle.lab_script.specs.declared.command.Action.TheVariants as Action
-use Rattle.lab_script.specs.declared.stream_command.StreamAction.{StreamAction}
+use Rattle.lab_script.specs.declared.command.Command.{Command}
 use Rattle.lab_script.specs.declared.stream_command.StreamCommand.{StreamCommand}
 use Rattle.lab_script.specs.StreamCommand.{IsStreamCommand}
-use Rattle.lab_run.specs.Steps.{events_of, settle_steps, steps_of}
-use Rattle.lab_run.proofs.RightLemmas.{IsRight-start, IsRight-step, IsRight-steps}
-use Rattle.lab_run.proofs.SettleLemmas.{IsRight-settle, settle_is_exchange}
+use Rattle.lab_run.specs.Steps.{events_of, settle_lines, settle_steps, steps_at, steps_of}
+use Rattle.lab_run.proofs.SettleLemmas.{IsRight-settle, settle_has_lines, settle_is_exchange}
 use Rattle.smux_acts.specs.Acts.{delivered, finished, written}
 use Rattle.smux_acts.specs.Each.{IsPrefixOf as Prefix}
 use Rattle.smux_acts.specs.Laws.{IsWhole}
 use Rattle.smux_streams.proofs.Ends.{end_law}
 use Rattle.smux_streams.proofs.Pairs.{pair_end_law, pair_law}
 use Rattle.lab_streams.specs.Laws.{AreEndsFaithful, AreStreamsFaithful, IsStreamFaithful, IsStreamSettled, StreamLaws, acts_at, settle_line}
-use Rattle.lab_streams.specs.Outcomes.{outcome_of_no_room}
-use Rattle.lab_streams.specs.Run.{StreamProgress, beginning, past_of, stream_progress, stream_progress_after, stream_run}
-use Rattle.lab_streams.specs.Steps.{Past, StreamStep, after, bytes_of, events_in, fed_steps, is_client, mux_history, outgoing, put_step, refused_step, stream_item, stream_steps}
+use Rattle.lab_streams.specs.Run.{past_of, stream_progress, stream_run}
+use Rattle.lab_streams.specs.Steps.{Past, StreamStep, after, bytes_of, events_in, fed_steps, is_client, mux_history, stream_steps_at}
 use Rattle.lab_streams.proofs.CarriedLemmas.{IsCarried, arrived_is_given}
-use Rattle.lab_streams.proofs.PastLemmas.{after-none, events_in-fed_steps, past_then-events}
-use Rattle.lab_streams.proofs.RunLemmas.{at_first, past_of-append, run-front, run-push}
+use Rattle.lab_streams.proofs.PastLemmas.{events_in-fed_steps, fed_steps-append, fed_steps-none, past_then-events}
+use Rattle.lab_streams.proofs.RunLemmas.{past_of-append, run-front, run-push}
 use Rattle.lab_streams.proofs.LineLemmas.{carried_run}
+use Rattle.lab_streams.proofs.SendableLemmas.{every_emission_is_sendable}
+use Rattle.lab_streams.proofs.WorldLemmas.{right_run}
 
 -- the ends of a world that is legal and honest
 ends_are_faithful : (w : ℕ) (events : List Event) → IsRight w events → AreEndsFaithful w events
@@ -44,6 +44,8 @@ ends_are_faithful w events r =
       once = λ side. each_number_is_taken_once w (history_of side events) (r.legal side);
       prefix = λ side. released_is_prefix w events side r.legal r.honest;
       whole = λ side. finished_is_whole w events side r.legal r.honest;
+      within = λ n. nothing_is_past_the_end w events n r.legal r.honest;
+      finished = λ side. finished_is_once w (history_of side events) (r.legal side);
     }
 
 -- the streams of what is carried
@@ -77,6 +79,32 @@ streams_are_faithful w past is =
     whole Plugin sid = pair_end_law past.calls is.legal is.linked (is_client Plugin) sid
     whole Agent sid = pair_end_law past.calls is.legal is.linked (is_client Agent) sid
 
+-- more calls of the ends are more at each
+history-then : (side : Side) (a b : List Event)
+    → history_of side (a ++ b) ≡ history_of side a ++ history_of side b
+unfolding history_of
+history-then side a b = filter_map-append (λ (x : Event). entry_at side x.side x.entry) a b
+
+-- after the last item of a direction nothing is put in there, whatever lines follow
+puts_end : (w : ℕ) (commands rest : List StreamCommand) (side : Side)
+    → let h = history_of side (past_of (stream_run w commands)).events in
+    has_ended h ≡ true
+    → put_items (history_of side (past_of (stream_run w (commands ++ rest))).events) ≡ put_items h
+puts_end w commands rest side over =
+    let steps = stream_run w commands in
+    let h = history_of side (past_of steps).events in
+    let front = run-front w commands rest in
+    let more = history_of side (events_in front.0) in
+    let joined : history_of side (past_of (stream_run w (commands ++ rest))).events ≡ h ++ more =
+    ap (λ (s : List StreamStep). history_of side (past_of s).events) front.1
+    ∙ ap (λ (p : Past). history_of side p.events) (past_of-append steps front.0)
+    ∙ history-then side (past_of steps).events (events_in front.0) in
+    let legal : IsLegal w (h ++ more) =
+    subst (IsLegal w) joined ((right_run w (commands ++ rest)).legal side) in
+    ap put_items joined
+    ∙ ap (λ (l : List PutMessage). map (λ m. m.item) l)
+    (nothing_follows_the_last w h more legal over)
+
 pub every_script_is_faithful : (w : ℕ) (commands : List StreamCommand)
     → All IsStreamCommand commands
     → IsStreamFaithful w commands
@@ -85,57 +113,25 @@ every_script_is_faithful w commands ranges =
     record {
       ends = ends_are_faithful w (past_of (stream_run w commands)).events is.right;
       streams = streams_are_faithful w (past_of (stream_run w commands)) is;
+      ended = puts_end w commands;
       begins = λ rest. let more = run-front w commands rest in (more.0, sym more.1);
     }
 
 -- ---- settles
 
--- the world of the ends stays legal and honest by every line
-right_line : (w : ℕ) (past : Past) (now line : ℕ) (command : StreamCommand)
-    → IsRight w past.events
-    → IsRight w (after past (stream_steps w past now line command)).events
-right_line w past now line (StreamCommand.Plain command) right =
-    subst (IsRight w) (sym (past_then-events past (steps_of w past.events now line command)))
-    (IsRight-steps w past.events now line command right)
-right_line w past now line StreamCommand.Open right = rw append-nil right
-right_line w past now line (StreamCommand.On side (StreamAction.Write sid bytes)) right =
-    rw append-nil right
-right_line w past now line (StreamCommand.On side (StreamAction.Close sid)) right =
-    rw append-nil right
-right_line w past now line (StreamCommand.On side (StreamAction.Take sid most)) right =
-    rw append-nil right
-right_line w past now line (StreamCommand.On side (StreamAction.Push most)) right =
-    let look = look_at w (history_of side past.events) in
-    let bytes = outgoing side past most in
-    cond_both (nat_eq look.room 0) (refused_step line side (outcome_of_no_room look))
-    (put_step w past now line side most bytes)
-    (λ (s : StreamStep). IsRight w (past.events ++ events_in (s ∷ [])))
-    (λ _. rw append-nil right)
-    (λ _. by_bytes bytes)
-  where
-    by_bytes : (bytes : List ℕ)
-        → IsRight w
-        (past.events ++ events_in (put_step w past now line side most bytes ∷ []))
-    by_bytes [] = rw append-nil right
-    by_bytes (b ∷ bytes) =
-        IsRight-step w past.events now line side (Action.Put (stream_item (b ∷ bytes))) right
-
-right_run : (w : ℕ) (commands : List StreamCommand)
-    → IsRight w (past_of (stream_run w commands)).events
-unfolding stream_progress
-right_run w commands =
-    goes at_first commands
-    (subst (λ (p : Past). IsRight w p.events) (sym (after-none beginning)) (IsRight-start w))
-  where
-    goes : (p : StreamProgress) (commands : List StreamCommand)
-        → IsRight w (past_of p.steps).events
-        → IsRight w (past_of (fold (stream_progress_after w) p commands).steps).events
-    goes p [] right = right
-    goes p (c ∷ cs) right =
-        let steps = stream_steps w (past_of p.steps) p.now p.line c in
-        goes (stream_progress_after w p c) cs
-        (subst (λ (q : Past). IsRight w q.events) (sym (past_of-append p.steps steps))
-        (right_line w (past_of p.steps) p.now p.line c right))
+-- the steps of plain lines one after the other, with their feeds
+fed_steps_at : (w : ℕ) (past : Past) (now line : ℕ) (lines : List Command)
+    → fed_steps past (steps_at w past.events now line lines)
+    ≡ stream_steps_at w past now line (map StreamCommand.Plain lines)
+fed_steps_at w past now line [] = fed_steps-none past
+fed_steps_at w past now line (c ∷ lines) =
+    let steps = steps_of w past.events now line c in
+    let here = fed_steps past steps in
+    fed_steps-append past steps (steps_at w (past.events ++ events_of steps) now line lines)
+    ∙ ap
+    (λ (v : List Event). here ++ fed_steps (after past here) (steps_at w v now line lines))
+    (sym (past_then-events past steps))
+    ∙ ap (λ (l : List StreamStep). here ++ l) (fed_steps_at w (after past here) now line lines)
 
 pub every_settle_exchanges_all : (w : ℕ) (commands : List StreamCommand)
     → IsStreamSettled w commands
@@ -144,6 +140,15 @@ every_settle_exchanges_all w commands =
       exchange = λ now line.
           subst IsExchange (sym (events_in-fed_steps past (settle_steps w before now line)))
           (settle_is_exchange w before now line right);
+      lines = λ now line.
+          let has = settle_has_lines w before now line right in (
+            has.0,
+            has.1,
+            has.2,
+            has.3,
+            ap (fed_steps past) has.4
+                ∙ fed_steps_at w past now line (settle_lines has.0 has.1),
+          );
       released = λ unclosed side.
           let all : released_items (history_of (other side) (before ++ xs))
           ≡ put_items (history_of side (before ++ xs)) =
@@ -186,4 +191,8 @@ every_settle_exchanges_all w commands =
 
 pub stream_laws : StreamLaws
 stream_laws =
-    record { faithful = every_script_is_faithful; settled = every_settle_exchanges_all }
+    record {
+      faithful = every_script_is_faithful;
+      settled = every_settle_exchanges_all;
+      sendable = every_emission_is_sendable;
+    }

@@ -11,4 +11,6 @@ pub mod QuietLemmas
 pub mod CarriedLemmas
 pub mod PutLemmas
 pub mod LineLemmas
+pub mod WorldLemmas
+pub mod SendableLemmas
 pub mod LawLemmas

@@ -1,9 +1,11 @@
 -- What holds of what happened, and of the report, in every script with streams.
-use Rattle.std.specs.Prelude.{◌≡◌, ◌≢◌, ◌↔◌, ◌≤◌, ℕ, true, false, length, List, [], ◌∷◌, ◌++◌, All}
+use Rattle.std.specs.Prelude.{◌≡◌, ◌≢◌, ◌↔◌, ◌≤◌, ◌*◌, ℕ, true, false, length, List, [], ◌∷◌, ◌++◌, All, map}
 use Rattle.std.specs.List.{AllPairs, list_any}
 use Rattle.chan_values.specs.declared.side.Side.{Side}
 use Rattle.chan_values.specs.Limits.{max_seq}
 use Rattle.chan_values.specs.Sides.{other}
+use Rattle.channel_core.specs.declared.call.EndAnswer.TheVariants as EndAnswer
+use Rattle.channel_core.specs.declared.answer.Heard.TheVariants as Heard
 use Rattle.channel_core.specs.Exchange.{IsExchange}
 use Rattle.channel_core.specs.History.{finished_count, has_ended, is_closed, put_items, put_messages, released_items, taken_items}
 use Rattle.channel_core.specs.Laws.{IsPrefixOf}
@@ -11,13 +13,15 @@ use Rattle.channel_core.specs.World.{Event, IsHonest, IsLegalWorld, history_of}
 use Rattle.lab_script.specs.declared.command.Command.{Command}
 use Rattle.lab_script.specs.declared.stream_command.StreamCommand.{StreamCommand}
 use Rattle.lab_script.specs.StreamCommand.{IsStreamCommand}
+use Rattle.lab_run.specs.Ends.{AllSendable}
+use Rattle.lab_run.specs.Steps.{settle_lines}
 use Rattle.smux_acts.specs.Acts.{Act, delivered, finished, written}
 use Rattle.smux_acts.specs.Each.{Each}
 use Rattle.smux_acts.specs.Laws.{IsWhole}
 use Rattle.smux_streams.specs.History.{acts_of, consumed, given}
 use Rattle.smux_streams.specs.Laws.{IsLegalPair, IsLinked, taken_in, tells_end}
 use Rattle.lab_streams.specs.Run.{past_of, stream_run}
-use Rattle.lab_streams.specs.Steps.{Past, arrived, events_in, is_client, mux_history, stream_steps}
+use Rattle.lab_streams.specs.Steps.{Past, arrived, events_in, is_client, mux_history, stream_steps, stream_steps_at}
 
 -- each end answered as it should, heard only what the other had emitted and took each number at
 -- most once, and what it released is a prefix of what the other end's user put in: all of it where
@@ -33,6 +37,10 @@ pub record AreEndsFaithful (w : ℕ) (events : List Event) : Type 0 where
       → (finished_count (history_of side events) ≡ 1)
       ↔ ((has_ended (history_of (other side) events) ≡ true)
       × (released_items (history_of side events) ≡ put_items (history_of (other side) events)))
+  -- no message that an end hears is answered as past the end of its direction
+  pub within : (n : ℕ) → All (λ x. x.entry.answer ≢ EndAnswer.Heard (Heard.PastEnd n)) events
+  -- an end answers at most once that the last item is released
+  pub finished : (side : Side) → finished_count (history_of side events) ≤ 1
 
 -- what happened at the Mux of a side
 abbrev pub acts_at : Side → Past → List Act
@@ -64,10 +72,16 @@ pub record AreStreamsFaithful (past : Past) : Type 0 where
       → Each (λ before e. list_any (tells_end sid) before ≡ true → taken_in sid e ≡ [])
       (mux_history side past)
 
--- after these lines the ends and the streams are as they should be
+-- after these lines the ends and the streams are as they should be; after a last item nothing is put
+-- in
 pub record IsStreamFaithful (w : ℕ) (commands : List StreamCommand) : Type 0 where
   pub ends : AreEndsFaithful w (past_of (stream_run w commands)).events
   pub streams : AreStreamsFaithful (past_of (stream_run w commands))
+  -- after the last item of a direction nothing is put in there, whatever lines follow
+  pub ended : (rest : List StreamCommand) (side : Side)
+      → let h = history_of side (past_of (stream_run w commands)).events in
+      has_ended h ≡ true
+      → put_items (history_of side (past_of (stream_run w (commands ++ rest))).events) ≡ put_items h
   -- a script that goes on behind these lines begins with their steps
   pub begins : (rest : List StreamCommand)
       → IsPrefixOf (stream_run w commands) (stream_run w (commands ++ rest))
@@ -76,12 +90,19 @@ pub record IsStreamFaithful (w : ℕ) (commands : List StreamCommand) : Type 0 w
 abbrev pub settle_line : StreamCommand
 settle_line = StreamCommand.Plain Command.Settle
 
--- a settle behind these lines makes an exchange without a loss; where neither end is closed then,
--- each has released all that the other put in
+-- a settle behind these lines makes an exchange without a loss, and its steps are those of the
+-- lines that it stands for; where neither end is closed then, each has released all that the other
+-- put in
 pub record IsStreamSettled (w : ℕ) (commands : List StreamCommand) : Type 0 where
   pub exchange : (now line : ℕ)
       → IsExchange
       (events_in (stream_steps w (past_of (stream_run w commands)) now line settle_line))
+  -- an end emits at most two messages for each place of its window
+  pub lines : (now line : ℕ)
+      → let past = past_of (stream_run w commands) in
+      (n : ℕ) × (m : ℕ) × (n ≤ 2 * w) × (m ≤ 2 * w)
+      × (stream_steps w past now line settle_line
+      ≡ stream_steps_at w past now line (map StreamCommand.Plain (settle_lines n m)))
   pub released :
       let events = (past_of (stream_run w (commands ++ settle_line ∷ []))).events in
       ((end : Side) → is_closed (history_of end events) ≡ false)
@@ -100,7 +121,15 @@ abbrev pub EveryStreamSettleExchangesAll : Type 0
 EveryStreamSettleExchangesAll =
     (w : ℕ) (commands : List StreamCommand) → IsStreamSettled w commands
 
+-- all that the ends of a script with streams emit has an encoding
+abbrev pub EveryStreamEmissionIsSendable : Type 0
+EveryStreamEmissionIsSendable =
+    (w : ℕ) (commands : List StreamCommand)
+    → All IsStreamCommand commands
+    → AllSendable (past_of (stream_run w commands)).events
+
 -- all laws of scripts with streams together
 pub record StreamLaws : Type 0 where
   pub faithful : EveryStreamScriptIsFaithful
   pub settled : EveryStreamSettleExchangesAll
+  pub sendable : EveryStreamEmissionIsSendable

@@ -240,3 +240,10 @@ stream_steps w past now line (StreamCommand.Plain command) =
 stream_steps w past now line StreamCommand.Open = open_step past line ∷ []
 stream_steps w past now line (StreamCommand.On side action) =
     action_steps w past now line side action
+
+-- the steps of these lines one after the other, all at this moment and with this line number
+abbrev pub stream_steps_at : ℕ → Past → ℕ → ℕ → List StreamCommand → List StreamStep
+stream_steps_at w past now line [] = []
+stream_steps_at w past now line (command ∷ commands) =
+    let steps = stream_steps w past now line command in
+    steps ++ stream_steps_at w (after past steps) now line commands
