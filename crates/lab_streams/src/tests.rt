@@ -91,6 +91,58 @@ fn the_last_items_of_a_direction_are_fed(rt: HostRuntime) -> Result<(), Fail> {
 }
 
 #[test]
+fn what_a_feed_leaves_is_fed_after_a_stake(rt: HostRuntime) -> Result<(), Fail> {
+    // 128 of the writes are 4,194,304 bytes, which is the most that may wait; a frame of 32,776
+    // bytes leaves in 33 pushes.
+    let alloc = rt.alloc();
+    let write = "61".repeat(alloc, 32_768)?;
+    let pushes = "spush P 1024\n".repeat(alloc, 33)?;
+    let frame = format!(in alloc; "swrite P 3 {write}\n{pushes}")?;
+    let frames = frame.repeat(alloc, 129)?;
+    let script = format!(in alloc; "sopen\n{frames}settle\nstake A 3 65536\n")?;
+    let end = format!(in alloc;
+        "4388 pull A idle\n4389 stake A {write}{write}\n4389 stream A ready 3\n"
+    )?;
+    let mut sink = FaultySink::new(alloc, Vec::new(alloc));
+    let ran = run(alloc, 10_000, commands(alloc, &script)?, &mut sink);
+    assert!(rt; ran == Ok(()), "there is memory");
+    assert!(rt;
+        sink.taken().ends_with(end.as_bytes()),
+        "the last write comes once there is room"
+    );
+    Ok(())
+}
+
+#[test]
+fn outgoing_bytes_have_a_bound(rt: HostRuntime) -> Result<(), Fail> {
+    // 31 frames of 32,776 bytes and the SYN of 8 are 1,016,064 bytes: 992 pushes of 1,024, and 256.
+    let alloc = rt.alloc();
+    let data = "00".repeat(alloc, 32_768)?;
+    let write = format!(in alloc; "swrite P 3 {data}\n")?;
+    let writes = write.repeat(alloc, 32)?;
+    let pushes = "spush P 1024\n".repeat(alloc, 992)?;
+    let script = format!(in alloc; "sopen\n{writes}{pushes}spush P 255\nspush P 1\nspush P 1\n")?;
+    let mut report = format!(in alloc; "1 sopen sid 3\n")?;
+    for line in 2..33u32 {
+        report.push_str(&format!(in alloc; "{line} swrite P done\n")?)?;
+    }
+    report.push_str("33 swrite P full\n")?;
+    for number in 0..994u32 {
+        let line = number.saturating_add(34);
+        report.push_str(&format!(in alloc; "{line} spush P seq {number}\n")?)?;
+    }
+    report.push_str("1028 spush P empty\n")?;
+    let mut sink = FaultySink::new(alloc, Vec::new(alloc));
+    let ran = run(alloc, 10_000, commands(alloc, &script)?, &mut sink);
+    assert!(rt; ran == Ok(()), "there is memory");
+    assert!(rt;
+        sink.taken() == report.as_bytes(),
+        "31 writes go out, and no more"
+    );
+    Ok(())
+}
+
+#[test]
 fn a_failed_write_is_told(rt: HostRuntime) -> Result<(), Fail> {
     let alloc = rt.alloc();
     let mut sink = FaultySink::new(alloc, vec![in alloc; 0u64; 1]?);
