@@ -1,9 +1,11 @@
 pub mod AcceptLemmas
+pub mod AnswerLemmas
 pub mod DoesLemmas
 pub mod EligibleLemmas
 pub mod EndLemmas
 pub mod ExplainLemmas
 pub mod FairLemmas
+pub mod FaultLemmas
 pub mod GivenLemmas
 pub mod HaltLemmas
 pub mod HeardLemmas
@@ -33,4 +35,5 @@ pub mod TotalLemmas
 pub mod TriedLemmas
 pub mod TryLemmas
 pub mod TurnLemmas
+pub mod VerdictLemmas
 pub mod WorldRunLemmas

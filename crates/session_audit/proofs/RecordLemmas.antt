@@ -28,7 +28,7 @@ letter_same Plugin Agent is = absurd (omega arith)
 letter_same Agent Plugin is = absurd (omega arith)
 
 -- records are the same in end, kind and rest
-same_parts : (side s : Side) (kind k : ℕ) (rest r : List ℕ)
+pub same_parts : (side s : Side) (kind k : ℕ) (rest r : List ℕ)
     → letter side ∷ kind ∷ rest ≡ letter s ∷ k ∷ r
     → (side ≡ s) × (kind ≡ k) × (rest ≡ r)
 same_parts side s kind k rest r is =

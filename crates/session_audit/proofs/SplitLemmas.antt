@@ -17,18 +17,18 @@ use Rattle.session_audit.proofs.LeftLemmas.{verdict_is_one}
 -- ---- one record
 
 -- a record is as long as it says
-length-framed : (r more : List ℕ)
+pub length-framed : (r more : List ℕ)
     → length (framed r ++ more) ≡ 4 + length r + length more
 length-framed r more =
     omega (arith, length-append (framed r) more, length-append (to_be_bytes w32 (length r)) r)
 
 -- the size at its front is its own
-size_framed : (r more : List ℕ) → IsSize (length r) → size_in (framed r ++ more) ≡ length r
+pub size_framed : (r more : List ℕ) → IsSize (length r) → size_in (framed r ++ more) ≡ length r
 size_framed r more size =
     let most = size.1 in from_be_bytes-to_be_bytes_4 (length r) (omega (arith, most))
 
 -- bytes begin with one record
-same_record : (r q more rest : List ℕ)
+pub same_record : (r q more rest : List ℕ)
     → framed r ++ more ≡ framed q ++ rest
     → IsSize (length r)
     → IsSize (length q)
@@ -52,7 +52,7 @@ same_record r q more rest is size_r size_q =
 -- ---- faults
 
 -- no record has no bytes
-nothing_framed : (r rest : List ℕ) → [] ≡ framed r ++ rest → ⊥
+pub nothing_framed : (r rest : List ℕ) → [] ≡ framed r ++ rest → ⊥
 nothing_framed r rest is =
     let long = length-framed r rest in
     let none : 0 ≡ length (framed r ++ rest) = ap (λ (l : List ℕ). length l) is in
@@ -85,7 +85,7 @@ whole_fault r more why formed q rest is size fault =
     formed.faultless why (subst (λ (l : List ℕ). HasFault l why) (sym same.0) fault)
 
 -- no fault begins with a record that has none
-record_sound : (r more : List ℕ) (why : Why)
+pub record_sound : (r more : List ℕ) (why : Why)
     → IsFormed r
     → BeginsWithFault (framed r ++ more) why
     → ⊥
@@ -114,7 +114,7 @@ record_sound r more Why.Unheard formed fault = absurd fault.4
 -- ---- journals
 
 -- a journal of formed records has no fault behind some of them
-no_fault : (records others : List (List ℕ)) (rest : List ℕ) (why : Why)
+pub no_fault : (records others : List (List ℕ)) (rest : List ℕ) (why : Why)
     → All IsFormed records
     → All IsFormed others
     → journal records ≡ journal others ++ rest
@@ -136,7 +136,7 @@ no_fault (r ∷ records) (q ∷ others) rest why formed sound is fault =
     (All-tail IsFormed q others sound) same.1 fault
 
 -- two lists of formed records with one journal are one
-same_records : (records others : List (List ℕ))
+pub same_records : (records others : List (List ℕ))
     → All IsFormed records
     → All IsFormed others
     → journal records ≡ journal others

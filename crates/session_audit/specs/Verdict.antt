@@ -164,3 +164,16 @@ ExplainedIsYes =
     → All IsFormed records
     → IsExplained w records
     → (totals : Totals) × (answer ≡ Audit.Yes totals)
+
+-- a journal has one verdict: where it is refused, it is so at one place and for one reason, and it is
+-- not accepted
+pub record JournalHasOneVerdict : Type 0 where
+  pub same : (w : ℕ) (bytes : List ℕ) (place other_place : ℕ) (why other_why : Why)
+      → IsVerdict w bytes (Audit.Bad place why)
+      → IsVerdict w bytes (Audit.Bad other_place other_why)
+      → (place ≡ other_place) × (why ≡ other_why)
+  pub refused : (w : ℕ) (bytes : List ℕ) (place : ℕ) (why : Why) (totals : Totals)
+      → 1 ≤ w
+      → IsVerdict w bytes (Audit.Bad place why)
+      → IsVerdict w bytes (Audit.Yes totals)
+      → ⊥

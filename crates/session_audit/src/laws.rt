@@ -6,7 +6,7 @@
 //! A law is the contract of a function with an empty body, by the definitions of `specs/`.
 
 ghost use Rattle.session_audit.specs.Laws.{OrderIsFree, ReplayFollows, RunIsWorld, StuckIsDone, WorldIsRun};
-ghost use Rattle.session_audit.specs.Verdict.{AcceptedIsExplained, ExplainedIsAccepted, ExplainedIsNotLeft, ExplainedIsYes, VerdictIsOne, YesIsExplained};
+ghost use Rattle.session_audit.specs.Verdict.{AcceptedIsExplained, ExplainedIsAccepted, ExplainedIsNotLeft, ExplainedIsYes, JournalHasOneVerdict, VerdictIsOne, YesIsExplained};
 
 /// What a legal history shows next can be replayed after what it showed before.
 pub fn replay_follows()
@@ -62,4 +62,9 @@ pub fn yes_is_explained()
 /// A journal without a fault of form that a legal and honest world has, gets the verdict Yes.
 pub fn explained_is_yes()
     ensures { ExplainedIsYes }
+{}
+
+/// A journal is refused at one place and for one reason, and then it doesn't get the verdict Yes.
+pub fn journal_has_one_verdict()
+    ensures { JournalHasOneVerdict }
 {}
