@@ -1,0 +1,11 @@
+pub mod ArrivingLemmas
+pub mod FormLemmas
+pub mod IdLemmas
+pub mod LawLemmas
+pub mod LineLemmas
+pub mod PassLemmas
+pub mod RunLemmas
+pub mod StepLemmas
+pub mod TextLemmas
+pub mod VerbLemmas
+pub mod WorldLemmas

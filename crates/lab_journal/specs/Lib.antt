@@ -1,0 +1,3 @@
+pub mod Laws
+pub mod Recording
+pub mod Records
