@@ -54,7 +54,8 @@ def stored_reports(modes):
     """How many stored reports the model gives, and the names of the others."""
     agreed, others = 0, []
     examples = TOP / "examples"
-    for script in sorted([*examples.glob("*.lab"), *examples.glob("*.capture")]):
+    inputs = [script for end in ("lab", "capture", "journal") for script in examples.glob("*." + end)]
+    for script in sorted(inputs):
         stored = script.with_suffix(".words")
         words = stored.read_bytes().split() if stored.exists() else []
         given = of_model(words, script.read_bytes(), modes)[2]

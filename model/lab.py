@@ -1,6 +1,6 @@
 """A model of the program lab: the same words, script, report and statuses.
 
-It is written from docs/PROTOCOL.md and docs/LAB.md alone. Modes that lab does not have yet are
+It is written from docs/PROTOCOL.md, docs/LAB.md and docs/JOURNAL.md alone. Modes that lab does not have yet are
 switched off, unless the variable MODEL_MODES names them, separated by commas.
 """
 
@@ -9,6 +9,7 @@ import sys
 
 from capture import show
 from generator import generate
+from journal import Fault, Journaled, judge
 from pair import Pair
 from relay import Relayed
 from script import BadLine, commands
@@ -16,9 +17,9 @@ from streams import Streams
 from words import GREATEST_WINDOW, Usage, read_words
 
 GREATEST_INPUT = 67_108_864
-BUILT = ("last", "show", "gen", "streams", "relay")
-COMING = ("last", "show", "gen", "streams", "relay")
-SCRIPTED = {"plain": Pair, "streams": Streams, "relay": Relayed}
+BUILT = ("last", "show", "gen", "streams", "relay", "journal", "audit")
+COMING = ("last", "show", "gen", "streams", "relay", "journal", "audit")
+SCRIPTED = {"plain": Pair, "streams": Streams, "relay": Relayed, "journal": Journaled}
 
 
 def run(words, read, modes=BUILT):
@@ -39,11 +40,17 @@ def run(words, read, modes=BUILT):
     if mode == "show":
         text, fault = show(script)
         return ((16, "BadCapture", *fault) if fault else (0, "Ok")), text
+    window = (numbers or [GREATEST_WINDOW])[0]
+    if mode == "audit":
+        try:
+            return (0, "Ok"), judge(script, window).encode()
+        except Fault as fault:
+            return (18, "BadJournal", fault.at, fault.why), b""
     try:
-        said = commands(script, mode, modes)
+        said = commands(script, "plain" if mode == "journal" else mode, modes)
     except BadLine as fault:
         return (3, "Script", fault.line), b""
-    ends = SCRIPTED[mode](*(numbers or [GREATEST_WINDOW]))
+    ends = SCRIPTED[mode](window)
     ends.run(said)
     return (0, "Ok"), ends.text()
 

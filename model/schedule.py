@@ -2,13 +2,14 @@
 
 from random import Random
 
-from lab import SCRIPTED
+from lab import SCRIPTED, run
 from script import GRAMMARS, command
 from wire import CLOSED, DATA_NAME, OTHER, PAUSE, START, Message, encode
 
 EDGES = (0, 1, 2**31, 2**32 - 1, 2**32, 2**63 - 1, 2**63, 2**64 - 1, 2**64)
 STRANGE_WORDS = (b"", b"0", b"1", b"2", b"01", b"+1", b"-1", b"10000", b"10001", b"\xff", b"--x",
-                 b"--window", b"--window=2", b"--streams", b"--relay", b"--show", b"--gen", b"--help")
+                 b"--window", b"--window=2", b"--streams", b"--relay", b"--journal", b"--audit",
+                 b"--show", b"--gen", b"--help")
 STEPS = (0, 1, 9, 10, 11, 90, 150, 190, 199, 200, 201, 1_000, 1_001, 600_000, 700_000)
 SPOILED = (b"", b"put P 1 6", b"put P 1 6A", b"put Q 1 61", b"put P 4294967296 61", b"put P 1  61",
            b"put P 01 61", b" pull P", b"pull P ", b"pull P\r", b"pull\tP", b"pull p", b"pull", b"Pull P",
@@ -191,6 +192,7 @@ def some_script(random, mode, modes):
     window = random.choice((1, 1, 2, 2, 3, 4, 6, 10, 100, 9_999, 10_000, None))
     words = [] if window is None else [b"--window", str(window).encode()]
     words += [] if mode == "plain" else [b"--" + mode.encode()]
+    mode = "plain" if mode == "journal" else mode
     writer = Writer(random, mode, window or 10_000, modes)
     if mode == "streams" and random.random() < 0.8:
         writer.add("sopen")
@@ -209,6 +211,47 @@ def some_script(random, mode, modes):
     if mode != "relay" and random.random() < 0.3:
         writer.add("settle")
     return words, writer.text()
+
+
+def some_journal(random, modes):
+    """The journal of a script, of which records may be dropped, doubled or moved, a byte may be another,
+    and the last record cut; at times judged with another window."""
+    words, script = some_script(random, "journal", modes)
+    journal = run(words, lambda most: script, modes)[1]
+    pieces, at = [], 0
+    while at < len(journal):
+        size = 4 + int.from_bytes(journal[at:at + 4], "big")
+        pieces.append(journal[at:at + size])
+        at += size
+    for _ in range(random.choice((0, 0, 1, 1, 2, 5))):
+        if not pieces:
+            break
+        piece, place = random.choice(pieces), random.randrange(len(pieces))
+        kind = random.choice(("drop", "double", "move", "exchange", "change", "foreign"))
+        if kind == "drop":
+            del pieces[place]
+        elif kind == "double":
+            pieces.insert(place, piece)
+        elif kind == "move":
+            pieces.insert(random.randrange(len(pieces)), pieces.pop(place))
+        elif kind == "exchange":
+            other = random.randrange(len(pieces))
+            pieces[place], pieces[other] = pieces[other], pieces[place]
+        elif kind == "change":
+            changed = bytearray(pieces[place])
+            # The head and the fields of a message are changed as often as its payload.
+            last = random.choice((6, 126, len(changed)))
+            changed[random.randrange(min(last, len(changed)))] ^= random.choice((1, 2, 3, 255))
+            pieces[place] = bytes(changed)
+        else:
+            message = some_message(random)
+            head = random.choice((b"P\0", b"A\0", b"P\1", b"A\1"))
+            pieces.insert(place, (len(message) + 2).to_bytes(4, "big") + head + message)
+    journal = b"".join(pieces)
+    if random.random() < 0.1:
+        journal = journal[:random.randint(0, len(journal))]
+    window = [] if random.random() < 0.9 else [b"--window", b"1"]
+    return (window or words[:-1]) + [b"--audit"], journal
 
 
 def some_message(random):
@@ -240,6 +283,8 @@ def some_input(seed, modes):
         words = begin + random.choices(STRANGE_WORDS, k=random.choice((1, 1, 1, 1, 2, 3)))
         return words, b"put P 1 61\npull P\n"
     mode = random.choice(["plain"] + [mode for mode in modes if mode != "last"])
+    if mode == "audit":
+        return some_journal(random, modes)
     if mode == "show":
         return some_capture(random)
     if mode == "gen":

@@ -59,6 +59,32 @@ class Modes(unittest.TestCase):
         self.assertEqual(report(["--gen", "1", "3"], modes=())[0], "lab: status 2 Usage 0\n")
 
 
+class Journals(unittest.TestCase):
+    opened = bytes.fromhex("000000025002000000024102")
+    message = bytes.fromhex(emission(0, (1, b"a"), 1))
+    second = bytes.fromhex(emission(1, (1, b"a"), 1))
+    emitted, heard = bytes.fromhex("0000007b5000"), bytes.fromhex("0000007b4101")
+
+    def judged(self, *pieces):
+        journal = b"".join(pieces)
+        status, output = run([b"--audit"], lambda most: journal[:most], COMING)
+        return status_line(status) or output.decode()
+
+    def test_a_journal_is_written_and_accepted(self):
+        script = b"put P 1 61\npull P\nhear A 0\n"
+        status, journal = run([b"--journal"], lambda most: script, COMING)
+        emitted, heard = self.emitted + self.message, self.heard + self.message
+        self.assertEqual((status_line(status), journal), ("", self.opened + emitted + heard))
+        line = "yes sent P 1 A 0 released A 1 P 0\n"
+        self.assertEqual(self.judged(journal), line)
+        self.assertEqual(self.judged(self.opened, heard, emitted), line)
+        self.assertEqual(self.judged(self.opened, emitted, emitted, heard), line)
+        self.assertEqual(self.judged(self.opened, heard), "lab: status 18 BadJournal 12 8\n")
+        second = self.emitted + self.second
+        self.assertEqual(self.judged(self.opened, second), "lab: status 18 BadJournal 12 7\n")
+        self.assertEqual(self.judged(bytes.fromhex("000000025802")), "lab: status 18 BadJournal 0 2\n")
+
+
 class Captures(unittest.TestCase):
     message = encode(Message("input_stream_data", 1, 0, 1, (1).to_bytes(16, "big"), 1, b"abc"))
     piece = len(message).to_bytes(4, "big") + message

@@ -25,7 +25,7 @@ def rounds(word):
 def lines_of_grammar(modes):
     """Each command line as a mode and its parts: a word that stands so, or a reader of a word."""
     lines = [("plain", ()), ("plain", (b"--window", window))]
-    for mode in ("streams", "relay"):
+    for mode in ("streams", "relay", "journal", "audit"):
         option = b"--" + mode.encode()
         lines += [(mode, (option,)), (mode, (b"--window", window, option))]
     lines += [("show", (b"--show",)), ("gen", (b"--gen", rounds, number))]

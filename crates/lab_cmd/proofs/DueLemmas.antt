@@ -6,14 +6,16 @@ use Rattle.lab_script.specs.Command.{IsCommand, IsScriptLine, spelling}
 use Rattle.lab_script.specs.Lines.{lines_of}
 use Rattle.lab_script.specs.RelayCommand.{IsRelayCommand, IsRelayLine, relay_spelling}
 use Rattle.lab_script.specs.StreamCommand.{IsStreamCommand, IsStreamLine, stream_spelling}
+use Rattle.lab_audit.specs.declared.fault.JournalFault.{JournalFault}
+use Rattle.session_audit.proofs.VerdictLemmas.{journal_has_one_verdict}
 use Rattle.lab_cmd.specs.declared.status.Status.{Status}
 use Rattle.lab_cmd.specs.declared.words.Mode.{Mode}
-use Rattle.lab_cmd.specs.declared.words.ScriptKind.{ScriptKind}
+use Rattle.lab_cmd.specs.declared.words.Task.{Task}
 use Rattle.lab_cmd.specs.Meanings.{HasBadLine, IsDue, IsDueIn, IsDueInput, IsLine, Outputs, Reports}
 use Rattle.lab_cmd.specs.Script.{IsFirstBad}
-use Rattle.lab_cmd.specs.Words.{Begins, IsWords, IsWordsFault}
+use Rattle.lab_cmd.specs.Words.{Begins, IsMode, IsWords, IsWordsFault}
 use Rattle.lab_cmd.proofs.ScriptLemmas.{IsFirstBad-unique, not_both, says_command, says_relay_command, says_stream_command}
-use Rattle.lab_cmd.proofs.WordLemmas.{IsWords-unique}
+use Rattle.lab_cmd.proofs.WordLemmas.{IsMode-words, IsWords-unique}
 
 -- fewer words begin more words
 take_front : (n m : ℕ) (xs : List (List ℕ)) → n ≤ m
@@ -63,78 +65,117 @@ IsWordsFault-unique words k m a b =
     let right : ¬ (m < k) = earlier words m k b a in
     omega (arith, left, right)
 
+-- a fault of a journal is its place and its reason
+same_fault : (a b : JournalFault) → a.at ≡ b.at → a.why ≡ b.why → a ≡ b
+same_fault a b place reason = λ i. record { at = place i; why = reason i }
+
 -- an input has one output, with one status
+task_output : (task : Task) (window : ℕ) (input : List ℕ) (a b : Status) (s t : List ℕ)
+    → 1 ≤ window
+    → Outputs (Mode.Windowed task window) input a s
+    → Outputs (Mode.Windowed task window) input b t
+    → a ≡ b
+task_output Task.Audit window input Status.Ok Status.Ok s t some x y = refl
+task_output Task.Audit window input Status.Ok (Status.BadJournal fault) s t some x y =
+    absurd
+    (journal_has_one_verdict.refused window input fault.at fault.why x.0 some y.0 x.1)
+task_output Task.Audit window input (Status.BadJournal fault) Status.Ok s t some x y =
+    absurd
+    (journal_has_one_verdict.refused window input fault.at fault.why y.0 some x.0 y.1)
+task_output Task.Audit window input (Status.BadJournal fault) (Status.BadJournal other) s t some x y
+    =
+    let same = journal_has_one_verdict.same window input fault.at other.at fault.why other.why x.0 y.0
+    in
+    ap Status.BadJournal (same_fault fault other same.0 same.1)
+task_output Task.Audit window input Status.Ok _ s t some x y = absurd y
+task_output Task.Audit window input (Status.BadJournal fault) _ s t some x y = absurd y
+task_output Task.Audit window input _ _ s t some x y = absurd x
+task_output task window input Status.Ok Status.Ok s t some x y = refl
+task_output task window input Status.Ok _ s t some x y = absurd y
+task_output task window input _ _ s t some x y = absurd x
+
 Outputs-unique : (mode : Mode) (input : List ℕ) (a b : Status) (s t : List ℕ)
-    → Outputs mode input a s → Outputs mode input b t → a ≡ b
-Outputs-unique (Mode.Script kind window) input Status.Ok Status.Ok s t x y = refl
-Outputs-unique (Mode.Script kind window) input Status.Ok _ s t x y = absurd y
-Outputs-unique (Mode.Script kind window) input _ _ s t x y = absurd x
-Outputs-unique Mode.Show input Status.Ok Status.Ok s t x y = refl
-Outputs-unique Mode.Show input Status.Ok (Status.BadCapture fault) s t x y =
+    → IsMode mode → Outputs mode input a s → Outputs mode input b t → a ≡ b
+Outputs-unique (Mode.Windowed task window) input a b s t fits x y =
+    task_output task window input a b s t fits.0 x y
+Outputs-unique Mode.Show input Status.Ok Status.Ok s t fits x y = refl
+Outputs-unique Mode.Show input Status.Ok (Status.BadCapture fault) s t fits x y =
     let same = one_reading input x.0 y.0 None (Some fault) x.1 y.1 in absurd (cc (same.1))
-Outputs-unique Mode.Show input (Status.BadCapture fault) Status.Ok s t x y =
+Outputs-unique Mode.Show input (Status.BadCapture fault) Status.Ok s t fits x y =
     let same = one_reading input x.0 y.0 (Some fault) None x.1 y.1 in absurd (cc (same.1))
-Outputs-unique Mode.Show input (Status.BadCapture fault) (Status.BadCapture other) s t x y =
+Outputs-unique Mode.Show input (Status.BadCapture fault) (Status.BadCapture other) s t fits x y =
     let same = one_reading input x.0 y.0 (Some fault) (Some other) x.1 y.1 in
     let faults : fault ≡ other = cc (same.1) in ap Status.BadCapture faults
-Outputs-unique Mode.Show input Status.Ok _ s t x y = absurd y
-Outputs-unique Mode.Show input (Status.BadCapture fault) _ s t x y = absurd y
-Outputs-unique Mode.Show input _ _ s t x y = absurd x
-Outputs-unique (Mode.Gen rounds start) input _ _ s t x y = absurd x
+Outputs-unique Mode.Show input Status.Ok _ s t fits x y = absurd y
+Outputs-unique Mode.Show input (Status.BadCapture fault) _ s t fits x y = absurd y
+Outputs-unique Mode.Show input _ _ s t fits x y = absurd x
+Outputs-unique (Mode.Gen rounds start) input _ _ s t fits x y = absurd x
 
 -- it has no line out of the grammar then
-no_bad_script : (kind : ScriptKind) (window : ℕ) (input : List ℕ) (n : ℕ) (text : List ℕ)
-    → IsFirstBad (IsLine kind) n (lines_of input) → Reports kind window input text → ⊥
-no_bad_script ScriptKind.Plain window input n text bad x =
+no_bad_script : (task : Task) (window : ℕ) (input : List ℕ) (n : ℕ) (text : List ℕ)
+    → IsFirstBad (IsLine task) n (lines_of input) → Reports task window input text → ⊥
+no_bad_script Task.Plain window input n text bad x =
     not_both spelling IsCommand IsScriptLine (λ command fits. says_command command fits)
     n x.0 input x.1 bad
-no_bad_script ScriptKind.Streams window input n text bad x =
+no_bad_script Task.Streams window input n text bad x =
     not_both stream_spelling IsStreamCommand IsStreamLine
     (λ command fits. says_stream_command command fits)
     n x.0 input x.1 bad
-no_bad_script ScriptKind.Relay window input n text bad x =
+no_bad_script Task.Relay window input n text bad x =
     not_both relay_spelling IsRelayCommand IsRelayLine
     (λ command fits. says_relay_command command fits)
     n x.0 input x.1 bad
+no_bad_script Task.Journal window input n text bad x =
+    not_both spelling IsCommand IsScriptLine (λ command fits. says_command command fits)
+    n x.0 input x.1 bad
+no_bad_script Task.Audit window input n text bad x = bad.out tt
 
 no_bad_line : (mode : Mode) (input : List ℕ) (n : ℕ) (status : Status) (text : List ℕ)
     → HasBadLine mode n input → Outputs mode input status text → ⊥
-no_bad_line (Mode.Script kind window) input n Status.Ok text bad x =
-    no_bad_script kind window input n text bad x
-no_bad_line (Mode.Script kind window) input n _ text bad x = x
+no_bad_line (Mode.Windowed task window) input n Status.Ok text bad x =
+    no_bad_script task window input n text bad x
+no_bad_line (Mode.Windowed Task.Audit window) input n (Status.BadJournal fault) text bad x =
+    bad.out tt
+no_bad_line (Mode.Windowed Task.Audit window) input n _ text bad x = x
+no_bad_line (Mode.Windowed Task.Plain window) input n _ text bad x = x
+no_bad_line (Mode.Windowed Task.Streams window) input n _ text bad x = x
+no_bad_line (Mode.Windowed Task.Relay window) input n _ text bad x = x
+no_bad_line (Mode.Windowed Task.Journal window) input n _ text bad x = x
 no_bad_line Mode.Show input n status text bad x = bad
 no_bad_line (Mode.Gen rounds start) input n status text bad x = bad
 
 -- there is one line that is the first out of the grammar
 HasBadLine-unique : (mode : Mode) (input : List ℕ) (n m : ℕ)
     → HasBadLine mode n input → HasBadLine mode m input → n ≡ m
-HasBadLine-unique (Mode.Script kind window) input n m x y =
-    IsFirstBad-unique (IsLine kind) n m (lines_of input) x y
+HasBadLine-unique (Mode.Windowed task window) input n m x y =
+    IsFirstBad-unique (IsLine task) n m (lines_of input) x y
 HasBadLine-unique Mode.Show input n m x y = absurd x
 HasBadLine-unique (Mode.Gen rounds start) input n m x y = absurd x
 
 -- a mode that reads an input and this input call for one status
 pub IsDueInput-unique : (mode : Mode) (left : List ℕ) (a b : Status)
-    → IsDueInput mode left a → IsDueInput mode left b → a ≡ b
-IsDueInput-unique mode left Status.TooLong Status.TooLong x y = refl
-IsDueInput-unique mode left Status.TooLong _ x y = absurd (omega (arith, x, y.0))
-IsDueInput-unique mode left (Status.Script n) (Status.Script m) x y =
+    → IsMode mode → IsDueInput mode left a → IsDueInput mode left b → a ≡ b
+IsDueInput-unique mode left Status.TooLong Status.TooLong fits x y = refl
+IsDueInput-unique mode left Status.TooLong _ fits x y = absurd (omega (arith, x, y.0))
+IsDueInput-unique mode left (Status.Script n) (Status.Script m) fits x y =
     ap Status.Script (HasBadLine-unique mode left n m x.1 y.1)
-IsDueInput-unique mode left (Status.Script n) Status.TooLong x y = absurd (omega (arith, x.0, y))
-IsDueInput-unique mode left (Status.Script n) b x y =
+IsDueInput-unique mode left (Status.Script n) Status.TooLong fits x y =
+    absurd (omega (arith, x.0, y))
+IsDueInput-unique mode left (Status.Script n) b fits x y =
     absurd (no_bad_line mode left n b y.1.0 x.1 y.1.1)
-IsDueInput-unique mode left _ Status.TooLong x y = absurd (omega (arith, x.0, y))
-IsDueInput-unique mode left a (Status.Script n) x y =
+IsDueInput-unique mode left _ Status.TooLong fits x y = absurd (omega (arith, x.0, y))
+IsDueInput-unique mode left a (Status.Script n) fits x y =
     absurd (no_bad_line mode left n a x.1.0 y.1 x.1.1)
-IsDueInput-unique mode left a b x y = Outputs-unique mode left a b x.1.0 y.1.0 x.1.1 y.1.1
+IsDueInput-unique mode left a b fits x y =
+    Outputs-unique mode left a b x.1.0 y.1.0 fits x.1.1 y.1.1
 
 -- so do a mode and the bytes that are left
 IsDueIn-unique : (mode : Mode) (left : List ℕ) (a b : Status)
-    → IsDueIn mode left a → IsDueIn mode left b → a ≡ b
-IsDueIn-unique (Mode.Script kind window) left a b x y =
-    IsDueInput-unique (Mode.Script kind window) left a b x y
-IsDueIn-unique Mode.Show left a b x y = IsDueInput-unique Mode.Show left a b x y
-IsDueIn-unique (Mode.Gen rounds start) left a b x y = x ∙ sym y
+    → IsMode mode → IsDueIn mode left a → IsDueIn mode left b → a ≡ b
+IsDueIn-unique (Mode.Windowed task window) left a b fits x y =
+    IsDueInput-unique (Mode.Windowed task window) left a b fits x y
+IsDueIn-unique Mode.Show left a b fits x y = IsDueInput-unique Mode.Show left a b fits x y
+IsDueIn-unique (Mode.Gen rounds start) left a b fits x y = x ∙ sym y
 
 -- what words of this mode call for
 pub IsDueIn-worded : (words : List (List ℕ)) (mode : Mode) (left : List ℕ) (due : Status)
@@ -152,7 +193,8 @@ by_mode : (words : List (List ℕ)) (left : List ℕ) (a b : Status) (m n : Mode
     → IsWords m words → IsWords n words → IsDueIn m left a → IsDueIn n left b → a ≡ b
 by_mode words left a b m n first second x y =
     let P : Mode → Type 0 = λ mode. IsDueIn mode left a in
-    IsDueIn-unique n left a b (subst P (IsWords-unique words m n first second) x) y
+    IsDueIn-unique n left a b (IsMode-words words n second)
+    (subst P (IsWords-unique words m n first second) x) y
 
 pub IsDue-unique : (words : List (List ℕ)) (left : List ℕ) (a b : Status)
     → IsDue words left a → IsDue words left b → a ≡ b

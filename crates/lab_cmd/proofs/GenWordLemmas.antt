@@ -3,7 +3,7 @@ use Rattle.std.proofs.Common.{◌≡◌, ◌≢◌, ℕ, ◌<◌, ◌^◌, inl, 
 use Rattle.std.proofs.lemmas.List.{nil_from_length}
 use Rattle.lab_cmd.specs.declared.words.Mode.{Mode}
 use Rattle.lab_cmd.specs.Words.{Begins, IsRounds, IsWords, IsWordsFault}
-use Rattle.lab_cmd.proofs.WordLemmas.{gen_is_not_show, gen_is_not_window, kind_is_not_gen, stops_at}
+use Rattle.lab_cmd.proofs.WordLemmas.{gen_is_not_show, gen_is_not_window, task_is_not_gen, stops_at}
 
 -- behind `--gen` stand the rounds and the start, and no more
 record BehindGen (operands : List (List ℕ)) : Type 0 where
@@ -15,9 +15,9 @@ record BehindGen (operands : List (List ℕ)) : Type 0 where
 
 behind_gen : (operands : List (List ℕ)) (mode : Mode) → IsWords mode (codes "--gen" ∷ operands)
     → BehindGen operands
-behind_gen operands (Mode.Script kind window) (inl told) =
-    absurd (kind_is_not_gen kind operands (sym told.0))
-behind_gen operands (Mode.Script kind window) (inr told) =
+behind_gen operands (Mode.Windowed task window) (inl told) =
+    absurd (task_is_not_gen task operands (sym told.0))
+behind_gen operands (Mode.Windowed task window) (inr told) =
     let e = told.0 in
     let same : codes "--gen" ≡ codes "--window" = cc in absurd (gen_is_not_window same)
 behind_gen operands Mode.Show e =

@@ -5,3 +5,5 @@ pub mod WindowWordLemmas
 pub mod GenWordLemmas
 pub mod DueLemmas
 pub mod MeaningLemmas
+pub mod AuditLemmas
+pub mod CompleteLemmas

@@ -2,23 +2,23 @@
 use Rattle.std.proofs.Common.{◌≡◌, ◌≢◌, ℕ, ◌<◌, inl, inr, List, [], ◌∷◌, length, refl, sym, ap, ◌∙◌, codes, decimal, arith}
 use Rattle.std.proofs.lemmas.List.{nil_from_length}
 use Rattle.lab_cmd.specs.declared.words.Mode.{Mode}
-use Rattle.lab_cmd.specs.declared.words.ScriptKind.{ScriptKind}
-use Rattle.lab_cmd.specs.Words.{Begins, IsWindow, IsWords, IsWordsFault, kind_words}
-use Rattle.lab_cmd.proofs.WordLemmas.{gen_is_not_window, kind_is_not_window, one_word, show_is_not_window, stops_at}
+use Rattle.lab_cmd.specs.declared.words.Task.{Task}
+use Rattle.lab_cmd.specs.Words.{Begins, IsWindow, IsWords, IsWordsFault, task_words}
+use Rattle.lab_cmd.proofs.WordLemmas.{gen_is_not_window, task_is_not_window, one_word, show_is_not_window, stops_at}
 
--- behind `--window` stand the window and the word of a kind, and no more
+-- behind `--window` stand the window and the word of a task, and no more
 record BehindWindow (operands : List (List ℕ)) : Type 0 where
   window : ℕ
-  kind : ScriptKind
+  task : Task
   fits : IsWindow window
-  spelled : operands ≡ decimal window ∷ kind_words kind
+  spelled : operands ≡ decimal window ∷ task_words task
 
 behind_window : (operands : List (List ℕ)) (mode : Mode)
     → IsWords mode (codes "--window" ∷ operands) → BehindWindow operands
-behind_window operands (Mode.Script kind window) (inl told) =
-    absurd (kind_is_not_window kind operands (sym told.0))
-behind_window operands (Mode.Script kind window) (inr told) =
-    let e = told.0 in record { window = window; kind = kind; fits = told.1; spelled = cc e }
+behind_window operands (Mode.Windowed task window) (inl told) =
+    absurd (task_is_not_window task operands (sym told.0))
+behind_window operands (Mode.Windowed task window) (inr told) =
+    let e = told.0 in record { window = window; task = task; fits = told.1; spelled = cc e }
 behind_window operands Mode.Show e =
     let same : codes "--show" ≡ codes "--window" = cc e in absurd (show_is_not_window same)
 behind_window operands (Mode.Gen rounds start) told =
@@ -28,17 +28,17 @@ behind_window operands (Mode.Gen rounds start) told =
 -- what begins a command line
 Begins-option : Begins (codes "--window" ∷ [])
 Begins-option =
-    (decimal 1 ∷ [], Mode.Script ScriptKind.Plain 1, inr (refl, (omega arith, omega arith)))
+    (decimal 1 ∷ [], Mode.Windowed Task.Plain 1, inr (refl, (omega arith, omega arith)))
 
 Begins-window : (window : ℕ) → IsWindow window → Begins (codes "--window" ∷ decimal window ∷ [])
-Begins-window window fits = ([], Mode.Script ScriptKind.Plain window, inr (refl, fits))
+Begins-window window fits = ([], Mode.Windowed Task.Plain window, inr (refl, fits))
 
-Begins-kind : (window : ℕ) (kind : ScriptKind) (name : List ℕ) → IsWindow window
-    → kind_words kind ≡ name ∷ []
+Begins-task : (window : ℕ) (task : Task) (name : List ℕ) → IsWindow window
+    → task_words task ≡ name ∷ []
     → Begins (codes "--window" ∷ decimal window ∷ name ∷ [])
-Begins-kind window kind name fits named = (
+Begins-task window task name fits named = (
   [],
-  Mode.Script kind window,
+  Mode.Windowed task window,
   inr (ap (λ (ws : List (List ℕ)). codes "--window" ∷ decimal window ∷ ws) (sym named), fits),
 )
 
@@ -76,71 +76,71 @@ pub IsWords-window : (window : ℕ) (operands : List (List ℕ)) (number : List 
     → length more ≡ 0
     → IsWindow window
     → decimal window ≡ number
-    → IsWords (Mode.Script ScriptKind.Plain window) (codes "--window" ∷ operands)
+    → IsWords (Mode.Windowed Task.Plain window) (codes "--window" ∷ operands)
 IsWords-window window operands number more second last fits spelled =
     let none : more ≡ [] = nil_from_length more last in
     inr (cc, fits)
 
--- the word behind the window names no kind
-pub IsWordsFault-kind : (operands : List (List ℕ)) (number : List ℕ) (more : List (List ℕ))
+-- the word behind the window names no task
+pub IsWordsFault-task : (operands : List (List ℕ)) (number : List ℕ) (more : List (List ℕ))
     (window : ℕ) (name : List ℕ) (rest : List (List ℕ))
     → operands ≡ number ∷ more
     → IsWindow window
     → decimal window ≡ number
     → more ≡ name ∷ rest
-    → ((kind : ScriptKind) → kind_words kind ≢ name ∷ [])
+    → ((task : Task) → task_words task ≢ name ∷ [])
     → IsWordsFault (codes "--window" ∷ operands) 2
-IsWordsFault-kind operands number more window name rest second fits spelled third none =
+IsWordsFault-task operands number more window name rest second fits spelled third none =
     let words = codes "--window" ∷ decimal window ∷ name ∷ rest in
     let at : IsWordsFault words 2 =
     stops_at words 2 (Begins-window window fits)
     (λ (b : Begins (codes "--window" ∷ decimal window ∷ name ∷ [])).
     let behind = behind_window (decimal window ∷ name ∷ b.0) b.1 b.2 in
     let e = behind.spelled in
-    let words_are : kind_words behind.kind ≡ name ∷ b.0 = cc e in
-    let last = one_word behind.kind name b.0 words_are in
-    none behind.kind (words_are ∙ ap (λ (ws : List (List ℕ)). name ∷ ws) last)) in
+    let words_are : task_words behind.task ≡ name ∷ b.0 = cc e in
+    let last = one_word behind.task name b.0 words_are in
+    none behind.task (words_are ∙ ap (λ (ws : List (List ℕ)). name ∷ ws) last)) in
     rw (second, ← spelled, third) at
 
--- a word behind that of the kind
-beyond_kind : (window : ℕ) (kind : ScriptKind) (name : List ℕ) (rest : List (List ℕ))
+-- a word behind that of the task
+beyond_task : (window : ℕ) (task : Task) (name : List ℕ) (rest : List (List ℕ))
     → 0 < length rest
     → IsWindow window
-    → kind_words kind ≡ name ∷ []
+    → task_words task ≡ name ∷ []
     → IsWordsFault (codes "--window" ∷ decimal window ∷ name ∷ rest) 3
-beyond_kind window kind name [] some fits named = absurd (omega (arith, some))
-beyond_kind window kind name (word ∷ rest) some fits named =
+beyond_task window task name [] some fits named = absurd (omega (arith, some))
+beyond_task window task name (word ∷ rest) some fits named =
     let words = codes "--window" ∷ decimal window ∷ name ∷ word ∷ rest in
-    stops_at words 3 (Begins-kind window kind name fits named)
+    stops_at words 3 (Begins-task window task name fits named)
     (λ (b : Begins (codes "--window" ∷ decimal window ∷ name ∷ word ∷ [])).
     let behind = behind_window (decimal window ∷ name ∷ word ∷ b.0) b.1 b.2 in
     let e = behind.spelled in
-    let words_are : kind_words behind.kind ≡ name ∷ word ∷ b.0 = cc e in
-    let last = one_word behind.kind name (word ∷ b.0) words_are in
+    let words_are : task_words behind.task ≡ name ∷ word ∷ b.0 = cc e in
+    let last = one_word behind.task name (word ∷ b.0) words_are in
     absurd (cc last))
 
 pub IsWordsFault-more : (operands : List (List ℕ)) (number : List ℕ) (more : List (List ℕ))
-    (window : ℕ) (name : List ℕ) (rest : List (List ℕ)) (kind : ScriptKind)
+    (window : ℕ) (name : List ℕ) (rest : List (List ℕ)) (task : Task)
     → operands ≡ number ∷ more
     → IsWindow window
     → decimal window ≡ number
     → more ≡ name ∷ rest
-    → kind_words kind ≡ name ∷ []
+    → task_words task ≡ name ∷ []
     → 0 < length rest
     → IsWordsFault (codes "--window" ∷ operands) 3
-IsWordsFault-more operands number more window name rest kind second fits spelled third named some =
-    rw (second, ← spelled, third) (beyond_kind window kind name rest some fits named)
+IsWordsFault-more operands number more window name rest task second fits spelled third named some =
+    rw (second, ← spelled, third) (beyond_task window task name rest some fits named)
 
--- `--window`, a window and the word of a kind
-pub IsWords-kind : (operands : List (List ℕ)) (number : List ℕ) (more : List (List ℕ))
-    (window : ℕ) (name : List ℕ) (rest : List (List ℕ)) (kind : ScriptKind)
+-- `--window`, a window and the word of a task
+pub IsWords-task : (operands : List (List ℕ)) (number : List ℕ) (more : List (List ℕ))
+    (window : ℕ) (name : List ℕ) (rest : List (List ℕ)) (task : Task)
     → operands ≡ number ∷ more
     → IsWindow window
     → decimal window ≡ number
     → more ≡ name ∷ rest
-    → kind_words kind ≡ name ∷ []
+    → task_words task ≡ name ∷ []
     → length rest ≡ 0
-    → IsWords (Mode.Script kind window) (codes "--window" ∷ operands)
-IsWords-kind operands number more window name rest kind second fits spelled third named last =
+    → IsWords (Mode.Windowed task window) (codes "--window" ∷ operands)
+IsWords-task operands number more window name rest task second fits spelled third named last =
     let none : rest ≡ [] = nil_from_length rest last in
     inr (cc, fits)

@@ -1,12 +1,16 @@
 -- What a status says of what was read and of what was written, in the mode that the words ask for.
-use Rattle.std.specs.Prelude.{◌≡◌, ℕ, ◌<◌, ◌≤◌, ◌⊎◌, Option, Some, None, List, length}
+use Rattle.std.specs.Prelude.{◌≡◌, ℕ, ◌<◌, ◌≤◌, ◌⊎◌, Option, Some, None, List, [], length, ⊤}
 use Rattle.agent_message.specs.Captures.{IsCapture}
 use Rattle.agent_message.specs.declared.message.Message.{Message}
 use Rattle.chan_io.specs.Faults.{Rises}
 use Rattle.chan_io.specs.Sinks.{Output, Writes, WritesPart}
 use Rattle.chan_io.specs.Sources.{Input}
+use Rattle.lab_audit.specs.declared.fault.JournalFault.{JournalFault}
+use Rattle.lab_audit.specs.Lines.{verdict_line}
+use Rattle.lab_audit.specs.Verdicts.{IsRefused}
 use Rattle.lab_gen.specs.Counts.{counts_line, counts_of}
 use Rattle.lab_gen.specs.Generator.{generated}
+use Rattle.lab_journal.specs.Records.{journal_of}
 use Rattle.lab_relay.specs.Run.{report as relay_report, run as relay_run}
 use Rattle.lab_run.specs.Run.{report, run}
 use Rattle.lab_run.specs.Steps.{world_of}
@@ -19,9 +23,12 @@ use Rattle.lab_script.specs.RelayCommand.{IsRelayCommand, IsRelayLine, relay_spe
 use Rattle.lab_script.specs.StreamCommand.{IsStreamCommand, IsStreamLine, stream_spelling}
 use Rattle.lab_show.specs.Lines.{show_lines}
 use Rattle.lab_streams.specs.Run.{stream_report, stream_run}
+use Rattle.session_audit.specs.declared.verdict.Audit.TheVariants as Audit
+use Rattle.session_audit.specs.declared.verdict.Totals.{Totals}
+use Rattle.session_audit.specs.Verdict.{IsVerdict}
 use Rattle.lab_cmd.specs.declared.status.Status.{Status}
 use Rattle.lab_cmd.specs.declared.words.Mode.{Mode}
-use Rattle.lab_cmd.specs.declared.words.ScriptKind.{ScriptKind}
+use Rattle.lab_cmd.specs.declared.words.Task.{Task}
 use Rattle.lab_cmd.specs.Inputs.{IsLonger, ReadToEnd, max_input}
 use Rattle.lab_cmd.specs.Script.{IsFirstBad, IsScript}
 use Rattle.lab_cmd.specs.Words.{IsWords, IsWordsFault}
@@ -49,41 +56,54 @@ abbrev pub beside : Option Input → ℕ → Option Output → ℕ → Outside
 beside input reads output writes =
     record { input = input; reads_failed = reads; output = output; writes_failed = writes }
 
--- what is written of an input that is a script of this kind: its report
-abbrev pub Reports : ScriptKind → ℕ → List ℕ → List ℕ → Type 0
-Reports ScriptKind.Plain window input text =
+-- what a task writes of an input at its end: the report of a script, its journal, or the line of a
+-- journal that is accepted
+abbrev pub Reports : Task → ℕ → List ℕ → List ℕ → Type 0
+Reports Task.Plain window input text =
     (commands : List Command)
     × IsScript spelling IsCommand commands input
     × (text ≡ report (run window commands))
-Reports ScriptKind.Streams window input text =
+Reports Task.Streams window input text =
     (commands : List StreamCommand)
     × IsScript stream_spelling IsStreamCommand commands input
     × (text ≡ stream_report (stream_run window commands))
-Reports ScriptKind.Relay window input text =
+Reports Task.Relay window input text =
     (commands : List RelayCommand)
     × IsScript relay_spelling IsRelayCommand commands input
     × (text ≡ relay_report (relay_run window commands))
+Reports Task.Journal window input text =
+    (commands : List Command)
+    × IsScript spelling IsCommand commands input
+    × (text ≡ journal_of window commands)
+Reports Task.Audit window input text =
+    (totals : Totals)
+    × IsVerdict window input (Audit.Yes totals)
+    × (text ≡ verdict_line totals)
 
--- a line of the grammar of this kind
-abbrev pub IsLine : ScriptKind → List ℕ → Type 0
-IsLine ScriptKind.Plain line = IsScriptLine line
-IsLine ScriptKind.Streams line = IsStreamLine line
-IsLine ScriptKind.Relay line = IsRelayLine line
+-- a line of the grammar of this task; a journal has none, so that nothing is out of it
+abbrev pub IsLine : Task → List ℕ → Type 0
+IsLine Task.Plain line = IsScriptLine line
+IsLine Task.Streams line = IsStreamLine line
+IsLine Task.Relay line = IsRelayLine line
+IsLine Task.Journal line = IsScriptLine line
+IsLine Task.Audit line = ⊤
 
--- what a mode writes of an input, and the status that comes then: the report of a script, or the lines
--- of a capture up to its end or its fault
+-- what a mode writes of an input, and the status that comes then: what its task writes, nothing of a
+-- journal that is refused, or the lines of a capture up to its end or its fault
 abbrev pub Outputs : Mode → List ℕ → Status → List ℕ → Type 0
-Outputs (Mode.Script kind window) input Status.Ok text = Reports kind window input text
+Outputs (Mode.Windowed task window) input Status.Ok text = Reports task window input text
 Outputs Mode.Show input Status.Ok text =
     (messages : List Message) × IsCapture input messages None × (text ≡ show_lines 0 messages)
 Outputs Mode.Show input (Status.BadCapture fault) text =
     (messages : List Message)
     × IsCapture input messages (Some fault) × (text ≡ show_lines 0 messages)
+Outputs (Mode.Windowed Task.Audit window) input (Status.BadJournal fault) text =
+    IsRefused window input fault × (text ≡ [])
 Outputs mode input status text = ⊥
 
 -- line n of an input is the first that is out of the grammar; only a script has lines
 abbrev pub HasBadLine : Mode → ℕ → List ℕ → Type 0
-HasBadLine (Mode.Script kind window) n input = IsFirstBad (IsLine kind) n (lines_of input)
+HasBadLine (Mode.Windowed task window) n input = IsFirstBad (IsLine task) n (lines_of input)
 HasBadLine Mode.Show n input = ⊥
 HasBadLine (Mode.Gen rounds start) n input = ⊥
 
@@ -96,6 +116,13 @@ pub record ReadsInput (input : List ℕ) (before after : Option Input) : Type 0 
 abbrev pub ReadsBadLine : Mode → ℕ → Option Input → Option Input → Type 0
 ReadsBadLine mode n before after =
     (input : List ℕ) × ReadsInput input before after × HasBadLine mode n input
+
+-- the source was read to its end, and the input is a journal that is refused for this fault
+abbrev pub ReadsRefused : Mode → JournalFault → Option Input → Option Input → Type 0
+ReadsRefused mode fault before after =
+    (input : List ℕ)
+    × ReadsInput input before after
+    × Outputs mode input (Status.BadJournal fault) []
 
 -- the source was read to its end; the input calls for this status, and its whole output was written
 pub record WritesAll (mode : Mode) (status : Status) (old new : Outside) : Type 0 where
@@ -124,6 +151,8 @@ MeansInput mode Status.NoMemory unwritten old new =
     (unwritten ⊎ WritesFront mode old new)
     × (new.reads_failed ≡ old.reads_failed)
     × (new.writes_failed ≡ old.writes_failed)
+MeansInput mode (Status.BadJournal fault) unwritten old new =
+    unwritten × ReadsRefused mode fault old.input new.input
 MeansInput mode (Status.Usage k) unwritten old new = ⊥
 MeansInput mode (Status.Script n) unwritten old new =
     unwritten × ReadsBadLine mode n old.input new.input

@@ -1,6 +1,8 @@
 -- The number and the text of a status, and the status of each fault.
 use Rattle.std.specs.Prelude.{ℕ, List, ◌++◌, codes, decimal, Result, Ok, Err}
 use Rattle.agent_message.specs.CaptureCauses.{cause_number}
+use Rattle.lab_audit.specs.declared.stop.AuditStop.{AuditStop}
+use Rattle.lab_audit.specs.Lines.{why_number}
 use Rattle.lab_cmd.specs.declared.input.InputFault.{InputFault}
 use Rattle.lab_cmd.specs.declared.script.ScriptFault.{ScriptFault}
 use Rattle.lab_cmd.specs.declared.status.Status.{Status}
@@ -17,6 +19,7 @@ exit_status_of Status.ReadFault = 4
 exit_status_of Status.WriteFault = 5
 exit_status_of Status.TooLong = 6
 exit_status_of (Status.BadCapture fault) = 16
+exit_status_of (Status.BadJournal fault) = 18
 
 -- the name of a status, and each of its arguments behind one space
 abbrev pub status_name : Status → List ℕ
@@ -29,6 +32,8 @@ status_name Status.WriteFault = codes "WriteFault"
 status_name Status.TooLong = codes "TooLong"
 status_name (Status.BadCapture fault) =
     codes "BadCapture " ++ decimal fault.at ++ codes " " ++ decimal (cause_number fault.cause)
+status_name (Status.BadJournal fault) =
+    codes "BadJournal " ++ decimal fault.at ++ codes " " ++ decimal (why_number fault.why)
 
 -- the line that tells of a status, without its line feed
 abbrev pub status_text : Status → List ℕ
@@ -56,6 +61,12 @@ abbrev pub status_of_show : ShowStop → Status
 status_of_show (ShowStop.Fault fault) = Status.BadCapture fault
 status_of_show ShowStop.Write = Status.WriteFault
 status_of_show ShowStop.NoMemory = Status.NoMemory
+
+-- the status of a journal that got no line
+abbrev pub status_of_audit : AuditStop → Status
+status_of_audit (AuditStop.Fault fault) = Status.BadJournal fault
+status_of_audit AuditStop.Write = Status.WriteFault
+status_of_audit AuditStop.NoMemory = Status.NoMemory
 
 -- the status of a mode that ended so
 abbrev pub status_of : {T : Type 0} → Result T Status → Status

@@ -2,7 +2,7 @@
 use Rattle.std.specs.Prelude.{◌≡◌, ℕ, ◌+◌, ◌^◌, ◌<◌, ◌≤◌, ◌⊎◌, List, [], ◌∷◌, ◌++◌, length, take, codes, decimal, ⊤}
 use Rattle.chan_values.specs.Limits.{max_window}
 use Rattle.lab_cmd.specs.declared.words.Mode.{Mode}
-use Rattle.lab_cmd.specs.declared.words.ScriptKind.{ScriptKind}
+use Rattle.lab_cmd.specs.declared.words.Task.{Task}
 
 -- a window of the ends has 1 to 10,000 messages
 abbrev pub IsWindow : ℕ → Type 0
@@ -14,15 +14,17 @@ IsRounds rounds = (1 ≤ rounds) × (rounds ≤ 1000000)
 
 -- the numbers of a mode are in range
 abbrev pub IsMode : Mode → Type 0
-IsMode (Mode.Script kind window) = IsWindow window
+IsMode (Mode.Windowed task window) = IsWindow window
 IsMode Mode.Show = ⊤
 IsMode (Mode.Gen rounds start) = IsRounds rounds
 
--- the word that names a kind of script; a plain one has none
-abbrev pub kind_words : ScriptKind → List (List ℕ)
-kind_words ScriptKind.Plain = []
-kind_words ScriptKind.Streams = codes "--streams" ∷ []
-kind_words ScriptKind.Relay = codes "--relay" ∷ []
+-- the word that names a task; the run of a plain script has none
+abbrev pub task_words : Task → List (List ℕ)
+task_words Task.Plain = []
+task_words Task.Streams = codes "--streams" ∷ []
+task_words Task.Relay = codes "--relay" ∷ []
+task_words Task.Journal = codes "--journal" ∷ []
+task_words Task.Audit = codes "--audit" ∷ []
 
 -- the words are these, and the window is 10,000; or `--window` and the window stand before these
 abbrev pub AsksWindow : ℕ → List (List ℕ) → List (List ℕ) → Type 0
@@ -32,7 +34,7 @@ AsksWindow window more words =
 
 -- the words are a command line of this mode
 abbrev pub IsWords : Mode → List (List ℕ) → Type 0
-IsWords (Mode.Script kind window) words = AsksWindow window (kind_words kind) words
+IsWords (Mode.Windowed task window) words = AsksWindow window (task_words task) words
 IsWords Mode.Show words = words ≡ codes "--show" ∷ []
 IsWords (Mode.Gen rounds start) words =
     (words ≡ codes "--gen" ∷ decimal rounds ∷ decimal start ∷ [])

@@ -12,4 +12,4 @@ mod words;
 pub use input::MAX_INPUT;
 pub use program::lab;
 pub use status::Status;
-pub use words::{Mode, ScriptKind};
+pub use words::{Mode, Task};

@@ -5,7 +5,7 @@ ghost use Rattle.chan_io.specs.Faults.{Rises};
 ghost use Rattle.chan_io.specs.Sources.{Input};
 ghost use Rattle.lab_cmd.specs.declared.status.Status.{Status};
 ghost use Rattle.lab_cmd.specs.declared.words.Mode.{Mode};
-ghost use Rattle.lab_cmd.specs.declared.words.ScriptKind.{ScriptKind};
+ghost use Rattle.lab_cmd.specs.declared.words.Task.{Task};
 ghost use Rattle.lab_cmd.specs.Inputs.{GivesAtMost, max_input};
 ghost use Rattle.lab_cmd.specs.Laws.{LabLaws};
 ghost use Rattle.lab_cmd.specs.Meanings.{IsDue, Means, MeansMade, MeansRead, beside, made_line, outside};
@@ -15,18 +15,21 @@ ghost use Rattle.lab_cmd.specs.Words.{IsMode, IsRounds, IsWindow, IsWords, IsWor
 use crate::input::read_input;
 use crate::script::read_script;
 use crate::status::Status;
-use crate::words::{Mode, ScriptKind, read_words};
+use crate::words::{Mode, Task, read_words};
 use chan_io::{Sink, Source};
 use chan_values::Word;
+use lab_audit::judge;
 use lab_gen::run_generated;
+use lab_journal::run_journal;
 use lab_script::{Command, RelayCommand, StreamCommand};
 use lab_show::show;
 use std::alloc::Global;
 
 /// Reads a script from the source, runs it on a plugin's end and an agent's end, and writes the
-/// report of the run to the sink; or reads a capture, and writes a line for each of its messages; or
-/// reads nothing, runs a script that makes itself, and writes one line. Nothing is read or written where the words are no command line, and nothing is written before the
-/// whole input was read and a script judged.
+/// report or the journal of the run to the sink; or reads a journal, and writes the line of its totals
+/// if it is accepted; or reads a capture, and writes a line for each of its messages; or reads nothing,
+/// runs a script that makes itself, and writes one line. Nothing is read or written where the words are
+/// no command line, and nothing is written before the whole input was read and a script judged.
 ///
 /// `means` says what each other status means in the mode that the words ask for. Where no call of the
 /// outside fails, the status that is due comes, or memory was wanted (`complete`). `laws` holds of every
@@ -78,9 +81,9 @@ fn run_mode<S: Source, K: Sink>(
     ensures writes_counted { K.faults sink.old ≤ K.faults sink.new }
 {
     match mode {
-        Mode::Script { kind, window } => {
+        Mode::Windowed { task, window } => {
             let input = read_input(alloc, source)?;
-            report(alloc, kind, window, &input, sink)
+            report(alloc, task, window, &input, sink)
         }
         Mode::Show => {
             let input = read_input(alloc, source)?;
@@ -90,24 +93,26 @@ fn run_mode<S: Source, K: Sink>(
     }
 }
 
-/// Writes the report of the script of this kind that the input is, run on two ends with this window.
+/// Writes what a task writes of the input, for two ends with this window.
 fn report<K: Sink>(
     alloc: Global,
-    kind: ScriptKind,
+    task: Task,
     window: u64,
     input: &[u8],
     sink: &mut K,
 ) -> Result<(), Status>
     requires { IsWindow window }
-    ensures means { MeansRead (Mode.Script kind window) input.now (status_of result)
+    ensures means { MeansRead (Mode.Windowed task window) input.now (status_of result)
         (sink.new ≡ sink.old)
         (K.output sink.old) (K.faults sink.old) (K.output sink.new) (K.faults sink.new) }
     ensures counted { K.faults sink.old ≤ K.faults sink.new }
 {
-    match kind {
-        ScriptKind::Plain => report_plain(alloc, window, input, sink),
-        ScriptKind::Streams => report_streams(alloc, window, input, sink),
-        ScriptKind::Relay => report_relayed(alloc, window, input, sink),
+    match task {
+        Task::Plain => report_plain(alloc, window, input, sink),
+        Task::Streams => report_streams(alloc, window, input, sink),
+        Task::Relay => report_relayed(alloc, window, input, sink),
+        Task::Journal => write_journal(alloc, window, input, sink),
+        Task::Audit => tell_verdict(alloc, window, input, sink),
     }
 }
 
@@ -118,7 +123,7 @@ fn report_plain<K: Sink>(
     sink: &mut K,
 ) -> Result<(), Status>
     requires { IsWindow window }
-    ensures means { MeansRead (Mode.Script ScriptKind.Plain window) input.now (status_of result)
+    ensures means { MeansRead (Mode.Windowed Task.Plain window) input.now (status_of result)
         (sink.new ≡ sink.old)
         (K.output sink.old) (K.faults sink.old) (K.output sink.new) (K.faults sink.new) }
     ensures counted { K.faults sink.old ≤ K.faults sink.new }
@@ -135,7 +140,7 @@ fn report_streams<K: Sink>(
     sink: &mut K,
 ) -> Result<(), Status>
     requires { IsWindow window }
-    ensures means { MeansRead (Mode.Script ScriptKind.Streams window) input.now (status_of result)
+    ensures means { MeansRead (Mode.Windowed Task.Streams window) input.now (status_of result)
         (sink.new ≡ sink.old)
         (K.output sink.old) (K.faults sink.old) (K.output sink.new) (K.faults sink.new) }
     ensures counted { K.faults sink.old ≤ K.faults sink.new }
@@ -152,13 +157,48 @@ fn report_relayed<K: Sink>(
     sink: &mut K,
 ) -> Result<(), Status>
     requires { IsWindow window }
-    ensures means { MeansRead (Mode.Script ScriptKind.Relay window) input.now (status_of result)
+    ensures means { MeansRead (Mode.Windowed Task.Relay window) input.now (status_of result)
         (sink.new ≡ sink.old)
         (K.output sink.old) (K.faults sink.old) (K.output sink.new) (K.faults sink.new) }
     ensures counted { K.faults sink.old ≤ K.faults sink.new }
 {
     let commands: Vec<RelayCommand> = read_script(alloc, input)?;
     lab_relay::run(alloc, window, commands, sink)?;
+    Ok(())
+}
+
+/// Writes the journal of the script that the input is.
+fn write_journal<K: Sink>(
+    alloc: Global,
+    window: u64,
+    input: &[u8],
+    sink: &mut K,
+) -> Result<(), Status>
+    requires { IsWindow window }
+    ensures means { MeansRead (Mode.Windowed Task.Journal window) input.now (status_of result)
+        (sink.new ≡ sink.old)
+        (K.output sink.old) (K.faults sink.old) (K.output sink.new) (K.faults sink.new) }
+    ensures counted { K.faults sink.old ≤ K.faults sink.new }
+{
+    let commands: Vec<Command> = read_script(alloc, input)?;
+    run_journal(alloc, window, commands, sink)?;
+    Ok(())
+}
+
+/// Writes the line of the journal that the input is, if it is accepted.
+fn tell_verdict<K: Sink>(
+    alloc: Global,
+    window: u64,
+    input: &[u8],
+    sink: &mut K,
+) -> Result<(), Status>
+    requires { IsWindow window }
+    ensures means { MeansRead (Mode.Windowed Task.Audit window) input.now (status_of result)
+        (sink.new ≡ sink.old)
+        (K.output sink.old) (K.faults sink.old) (K.output sink.new) (K.faults sink.new) }
+    ensures counted { K.faults sink.old ≤ K.faults sink.new }
+{
+    judge(alloc, window, input, sink)?;
     Ok(())
 }
 

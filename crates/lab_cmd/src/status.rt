@@ -5,6 +5,7 @@ ghost use Rattle.std.specs.Prelude.{◌≡◌};
 use crate::input::InputFault;
 use crate::script::ScriptFault;
 use agent_message::CaptureFault;
+use lab_audit::{AuditStop, JournalFault};
 use lab_run::Stop;
 use lab_show::ShowStop;
 use std::fmt;
@@ -30,6 +31,8 @@ pub enum Status {
     /// The input is no capture, and this is its first fault. The lines of the messages before it were
     /// written.
     BadCapture(CaptureFault),
+    /// The input is no journal of a legal and honest world, and this is the first place that shows it.
+    BadJournal(JournalFault),
 }
 
 impl Status {
@@ -48,6 +51,7 @@ impl Status {
             Status::WriteFault => 5,
             Status::TooLong => 6,
             Status::BadCapture(_) => 16,
+            Status::BadJournal(_) => 18,
         }
     }
 }
@@ -73,6 +77,11 @@ impl fmt::Display for Status {
                 let at = fault.at;
                 let cause = fault.cause.number();
                 write!(f, "BadCapture {at} {cause}")
+            }
+            Status::BadJournal(fault) => {
+                let at = fault.at;
+                let why = fault.number();
+                write!(f, "BadJournal {at} {why}")
             }
         }
     }
@@ -132,6 +141,21 @@ impl From<ShowStop> for Status {
             ShowStop::Fault(fault) => Status::BadCapture(fault),
             ShowStop::Write => Status::WriteFault,
             ShowStop::NoMemory => Status::NoMemory,
+        }
+    }
+}
+
+impl From<AuditStop> for Status {
+    ghost use Rattle.std.specs.Prelude.{◌≡◌};
+    ghost use Rattle.lab_cmd.specs.Statuses.{status_of_audit};
+
+    ghost from_gives = { λ stop status. status ≡ status_of_audit stop };
+
+    fn from(stop: AuditStop) -> Status {
+        match stop {
+            AuditStop::Fault(fault) => Status::BadJournal(fault),
+            AuditStop::Write => Status::WriteFault,
+            AuditStop::NoMemory => Status::NoMemory,
         }
     }
 }

@@ -1,11 +1,13 @@
 //! Runs of the program over fakes of the outside.
 
 mod ends;
+mod journals;
 mod listings;
 mod relayed;
 mod reports;
 mod statuses;
 mod streams;
+mod verdicts;
 
 use crate::{Status, lab};
 use chan_io::{FaultySink, FaultySource};

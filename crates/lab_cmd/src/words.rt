@@ -1,8 +1,8 @@
 //! The words behind the program's name.
 
 ghost use Rattle.std.specs.Prelude.{◌≡◌, ◌≢◌, ◌∷◌, [], codes, ℕ, IfOk, IfErr, IfSome, IfNone, decimal};
-ghost use Rattle.lab_cmd.specs.declared.words.ScriptKind.{ScriptKind};
-ghost use Rattle.lab_cmd.specs.Words.{IsNoOption, IsRounds, IsWindow, IsWords, IsWordsFault, kind_words};
+ghost use Rattle.lab_cmd.specs.declared.words.Task.{Task};
+ghost use Rattle.lab_cmd.specs.Words.{IsNoOption, IsRounds, IsWindow, IsWords, IsWordsFault, task_words};
 
 use chan_values::{MAX_WINDOW, Word};
 use lab_gen::MAX_ROUNDS;
@@ -11,22 +11,26 @@ use lab_script::read_number;
 /// The window of both ends where no word says another.
 const DEFAULT_WINDOW: u64 = 10_000;
 
-/// What the lines of a script are about.
+/// What is done with the input, for two ends with a window.
 #[derive(Clone, Copy, Debug, PartialEq, Eq)]
-pub enum ScriptKind {
-    /// Two ends of the channel.
+pub enum Task {
+    /// A script is run, and its report is written.
     Plain,
-    /// Two ends that carry streams.
+    /// A script whose ends carry streams is run, and its report is written.
     Streams,
-    /// Two ends that reach each other through the relay.
+    /// A script whose ends reach each other through the relay is run, and its report is written.
     Relay,
+    /// A script is run, and the journal of what both ends did is written.
+    Journal,
+    /// A journal of what both ends did is judged, and the line of its totals is written.
+    Audit,
 }
 
 /// What the words ask the program for.
 #[derive(Clone, Copy, Debug, PartialEq, Eq)]
 pub enum Mode {
-    /// To run the script of the input, which is of this kind, on two ends with this window.
-    Script { kind: ScriptKind, window: u64 },
+    /// To do this with the input, for two ends with this window.
+    Windowed { task: Task, window: u64 },
     /// To list the messages of the capture that the input is.
     Show,
     /// To run a script that makes itself in so many rounds from a start.
@@ -39,8 +43,8 @@ pub fn read_words(words: &[Word]) -> Result<Mode, u64>
     ensures fault { IfErr result (λ k. IsWordsFault words.now k) }
 {
     let Some((option, operands)) = words.split_first() else {
-        return Ok(Mode::Script {
-            kind: ScriptKind::Plain,
+        return Ok(Mode::Windowed {
+            task: Task::Plain,
             window: DEFAULT_WINDOW,
         });
     };
@@ -67,25 +71,31 @@ fn read_alone(option: &Word) -> Option<Mode>
     if option.as_str() == "--show" {
         return Some(Mode::Show);
     }
-    let Some(kind) = read_kind(option) else {
+    let Some(task) = read_task(option) else {
         return None;
     };
-    Some(Mode::Script {
-        kind,
+    Some(Mode::Windowed {
+        task,
         window: DEFAULT_WINDOW,
     })
 }
 
-/// The kind of script that a word names.
-fn read_kind(word: &Word) -> Option<ScriptKind>
-    ensures found { IfSome result (λ kind. kind_words kind ≡ word.now ∷ []) }
-    ensures none { IfNone result ((kind : ScriptKind) → kind_words kind ≢ word.now ∷ []) }
+/// The task that a word names.
+fn read_task(word: &Word) -> Option<Task>
+    ensures found { IfSome result (λ task. task_words task ≡ word.now ∷ []) }
+    ensures none { IfNone result ((task : Task) → task_words task ≢ word.now ∷ []) }
 {
     if word.as_str() == "--streams" {
-        return Some(ScriptKind::Streams);
+        return Some(Task::Streams);
     }
     if word.as_str() == "--relay" {
-        return Some(ScriptKind::Relay);
+        return Some(Task::Relay);
+    }
+    if word.as_str() == "--journal" {
+        return Some(Task::Journal);
+    }
+    if word.as_str() == "--audit" {
+        return Some(Task::Audit);
     }
     None
 }
@@ -103,18 +113,18 @@ fn read_windowed(operands: &[Word]) -> Result<Mode, u64>
         return Err(1);
     };
     let Some((name, rest)) = more.split_first() else {
-        return Ok(Mode::Script {
-            kind: ScriptKind::Plain,
+        return Ok(Mode::Windowed {
+            task: Task::Plain,
             window,
         });
     };
-    let Some(kind) = read_kind(name) else {
+    let Some(task) = read_task(name) else {
         return Err(2);
     };
     if !rest.is_empty() {
         return Err(3);
     }
-    Ok(Mode::Script { kind, window })
+    Ok(Mode::Windowed { task, window })
 }
 
 /// The window that a word says.

@@ -5,6 +5,8 @@ use crate::{Status, lab};
 use agent_message::{CaptureCause, CaptureFault};
 use chan_io::{FaultySink, FaultySource};
 use chan_values::Word;
+use lab_audit::JournalFault;
+use session_audit::Why;
 use std::test::Fail;
 
 #[test]
@@ -50,6 +52,12 @@ fn a_faulty_command_line_is_told_by_its_place(rt: HostRuntime) -> Result<(), Fai
         ("--streams --relay", 1),
         ("--relay --window 5", 1),
         ("--window 5 --relay --streams", 3),
+        ("--journals", 0),
+        ("--journal 1", 1),
+        ("--audit --window 5", 1),
+        ("--window 10001 --audit", 1),
+        ("--window 5 --journals", 2),
+        ("--window 5 --audit --journal", 3),
     ];
     for (line, k) in cases {
         let (status, sink) = run_with(rt.alloc(), line, "put P 1 61\n")?;
@@ -132,6 +140,8 @@ fn a_failed_write_is_told(rt: HostRuntime) -> Result<(), Fail> {
 fn a_status_is_told_by_its_line(rt: HostRuntime) -> Result<(), Fail> {
     let cause = CaptureCause::Cut(4);
     let cut = Status::BadCapture(CaptureFault { at: 127, cause });
+    let why = Why::Unheard;
+    let unheard = Status::BadJournal(JournalFault { at: 12, why });
     let cases = [
         (Status::NoMemory, 1, "lab: status 1 NoMemory"),
         (Status::Usage(0), 2, "lab: status 2 Usage 0"),
@@ -140,6 +150,7 @@ fn a_status_is_told_by_its_line(rt: HostRuntime) -> Result<(), Fail> {
         (Status::WriteFault, 5, "lab: status 5 WriteFault"),
         (Status::TooLong, 6, "lab: status 6 TooLong"),
         (cut, 16, "lab: status 16 BadCapture 127 3"),
+        (unheard, 18, "lab: status 18 BadJournal 12 8"),
     ];
     for (status, number, line) in cases {
         assert!(rt; status.number() == number, "{line}");

@@ -1,14 +1,17 @@
 use Rattle.std.proofs.Common.{◌≡◌, inl, ap, subst}
 use Rattle.lab_run.proofs.LawLemmas.{script_laws}
 use Rattle.lab_gen.proofs.LawLemmas.{generated_laws}
+use Rattle.lab_journal.proofs.LawLemmas.{journal_laws}
 use Rattle.lab_relay.proofs.SoundLemmas.{relay_laws}
 use Rattle.lab_streams.proofs.LawLemmas.{stream_laws}
+use Rattle.session_audit.proofs.SplitLemmas.{explained_is_yes, yes_is_explained}
+use Rattle.session_audit.proofs.VerdictLemmas.{journal_has_one_verdict}
 use Rattle.lab_cmd.specs.declared.status.Status.{Status}
 use Rattle.lab_cmd.specs.Laws.{LabLaws}
 use Rattle.lab_cmd.specs.Meanings.{outside}
 use Rattle.lab_cmd.specs.Words.{IsWordsFault}
 use Rattle.lab_cmd.proofs.DueLemmas.{IsDue-unique, IsWordsFault-unique}
-use Rattle.lab_cmd.proofs.MeaningLemmas.{due_from_means}
+use Rattle.lab_cmd.proofs.CompleteLemmas.{due_from_means}
 use Rattle.lab_cmd.proofs.WordLemmas.{IsMode-words, IsWords-unique}
 use Rattle.lab_cmd.proofs.program.lab.Goals as goal
 
@@ -20,6 +23,10 @@ all_laws =
       streams = stream_laws;
       relayed = relay_laws;
       generated = generated_laws;
+      journals = journal_laws;
+      sound = yes_is_explained;
+      complete = explained_is_yes;
+      one = journal_has_one_verdict;
     }
 
 pub returns-in-Err-clause-laws : goal.returns-in-Err-clause-laws

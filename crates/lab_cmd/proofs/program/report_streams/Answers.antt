@@ -2,7 +2,7 @@ use Rattle.std.proofs.Common.{Err, ap, refl}
 use Rattle.std.proofs.lemmas.Result.{err_from_is_err_and}
 use Rattle.lab_streams.specs.Run.{stream_report, stream_run}
 use Rattle.lab_cmd.specs.declared.words.Mode.{Mode}
-use Rattle.lab_cmd.specs.declared.words.ScriptKind.{ScriptKind}
+use Rattle.lab_cmd.specs.declared.words.Task.{Task}
 use Rattle.lab_cmd.proofs.MeaningLemmas.{MeansRead-script, MeansRead-stop}
 use Rattle.lab_cmd.proofs.program.report_streams.Goals as goal
 
@@ -10,7 +10,7 @@ pub returns-in_err-commands-clause-means : goal.returns-in_err-commands-clause-m
 returns-in_err-commands-clause-means g c =
     let err = err_from_is_err_and c.from_residual.result c.from_residual.ensures.1 in
     rw (err.1, err.2)
-    (MeansRead-script (Mode.Script ScriptKind.Streams c.args.window) c.args.input.now
+    (MeansRead-script (Mode.Windowed Task.Streams c.args.window) c.args.input.now
     c.in_err-commands.field-0.0 _ _ _ refl
     (λ n is. c.in_err-commands.ensures.bad n (ap Err is)))
 
@@ -20,7 +20,7 @@ returns-in_err-run-clause-means g c =
     err_from_is_err_and c.from_residual-in_err-run.result c.from_residual-in_err-run.ensures.1 in
     let commands = c.in_ok-commands.commands.items in
     rw (err.1, err.2)
-    (MeansRead-stop (Mode.Script ScriptKind.Streams c.args.window) c.args.input.now
+    (MeansRead-stop (Mode.Windowed Task.Streams c.args.window) c.args.input.now
     (stream_report (stream_run c.args.window commands)) _ _ _ _ _ _
     (commands, c.in_ok-commands.ensures.script, refl)
     c.in_err-run.ensures.part c.in_err-run.ensures.failed c.in_err-run.ensures.memory)
