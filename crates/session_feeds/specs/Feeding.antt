@@ -1,5 +1,5 @@
 -- What a feeder gives.
-use Rattle.std.specs.Prelude.{◌≡◌, ◌≤◌, ℕ, Option, Some, None, List, [], ◌∷◌, length}
+use Rattle.std.specs.Prelude.{◌≤◌, ℕ, Option, Some, None, List, [], ◌∷◌, length}
 use Rattle.chan_values.specs.Limits.{max_payload}
 use Rattle.chan_values.specs.declared.item.Item.{Item}
 use Rattle.session_feeds.specs.declared.feeder.Came.{Came}

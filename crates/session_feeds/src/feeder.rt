@@ -35,12 +35,12 @@ pub enum Came {
 
 /// What brings a session's input. It runs in a worker of its own.
 pub trait Feeder: Send + Drop + Sized {
-    /// What it tells of itself: the number by which contracts know it, which stays; the numbers of the
+    /// What it tells of itself: the number by which contracts know it, which stays; those of the
     /// feeders and the pieces that it gave; how it came to its end; how many of its calls failed.
     ghost told: { Self → Told };
 
-    /// Gives the next. It may wait for its source, which ends the wait once the session is stopped. One
-    /// that has more to give gives it before it is quiet.
+    /// Gives the next. It may wait for its source, which ends the wait once the session is stopped.
+    /// One that has more to give gives it before it is quiet.
     fn next(&mut self) -> Fed<Self>
         requires { (told self.old).came ≡ None }
         ensures mark { (told self.new).mark ≡ (told self.old).mark }

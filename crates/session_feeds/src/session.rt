@@ -42,8 +42,8 @@ pub enum SessionFault {
     NoMemory,
 }
 
-/// The user's end of the channel. `begin` comes once. `take` and `ready` come only after a `begin` that
-/// was not refused, and after no refusal.
+/// The user's end of the channel. `begin` comes once. `take` and `ready` come only after a `begin`
+/// that was not refused, and after no refusal.
 pub trait Session: Send + Drop {
     /// What brings its input.
     type F: Feeder;
@@ -89,8 +89,8 @@ pub trait Session: Send + Drop {
         ensures fits { AllSmall (puts_in result) }
         ensures fresh { All (λ f. IsNew (Self.F.Feeder.told f)) (feeders_of result) };
 
-    /// Tries again to place what earlier parcels left. Answers whether nothing of it is left, and gives
-    /// the feeders that this made.
+    /// Tries again to place what earlier parcels left. Answers whether nothing of it is left, and
+    /// gives the feeders that this made.
     fn ready(&mut self) -> Result<(bool, Vec<Self::F>), SessionFault>
         requires { MayCall (begun self.old) (refused self.old) }
         ensures begun { begun self.new ≡ true }
