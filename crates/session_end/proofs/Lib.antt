@@ -1,0 +1,16 @@
+pub mod CauseLemmas
+pub mod CloseLemmas
+pub mod ClosedLemmas
+pub mod EndedLemmas
+pub mod GivenLemmas
+pub mod HistoryLemmas
+pub mod JoinLemmas
+pub mod LinkRunLemmas
+pub mod MemoryLemmas
+pub mod PartLemmas
+pub mod RanLemmas
+pub mod ReaderEndLemmas
+pub mod RunLemmas
+pub mod RunSeatLemmas
+pub mod ShareLemmas
+pub mod TokenLemmas

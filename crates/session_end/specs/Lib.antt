@@ -1,0 +1,12 @@
+pub mod Causes
+pub mod Crews
+pub mod Deeds
+pub mod LinkParts
+pub mod LinkRuns
+pub mod Outcomes
+pub mod Parts
+pub mod Plans
+pub mod Ran
+pub mod Seats
+pub mod Setups
+pub mod Starts
