@@ -39,6 +39,24 @@ fn an_early_item_waits_for_the_one_before_it(rt: HostRuntime) -> Result<(), Fail
 }
 
 #[test]
+fn a_window_of_two_waits_for_the_first_item(rt: HostRuntime) -> Result<(), Fail> {
+    let alloc = rt.alloc();
+    let mut window = Window::new(alloc, 2).expect(&rt, "there is memory");
+    let early: [Row; 2] = [
+        (2, b'c', false, Wanted::Beyond),
+        (1, b'b', false, Wanted::Released(b"")),
+    ];
+    assert!(rt; answers(alloc, &mut window, &early)?, "none is in order");
+    assert!(rt; window.held() == 1, "one waits");
+    let next: [Row; 2] = [
+        (0, b'a', false, Wanted::Released(b"ab")),
+        (1, b'b', false, Wanted::Late),
+    ];
+    assert!(rt; answers(alloc, &mut window, &next)?, "each once");
+    Ok(())
+}
+
+#[test]
 fn nothing_is_taken_after_the_last_message(rt: HostRuntime) -> Result<(), Fail> {
     let alloc = rt.alloc();
     let mut window = Window::new(alloc, 3).expect(&rt, "there is memory");
