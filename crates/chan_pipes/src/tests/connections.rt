@@ -1,4 +1,4 @@
-use crate::{PolledSource, Stop, TcpIn, TcpPorts};
+use crate::{PolledSink, PolledSource, Stop, TcpIn, TcpPorts};
 use chan_io::{Sink, Source};
 use chan_ports::Ports;
 use std::test::Fail;
@@ -37,6 +37,9 @@ fn a_port_where_nobody_listens_is_a_failure(rt: HostRuntime) -> Result<(), Fail>
     let mut ports = TcpPorts::new(&rt, &stop);
     assert!(rt; ports.connect(port).is_err(), "no connection");
     assert!(rt; ports.accept().is_err(), "it does not listen");
+    let taken = ports.listen(0).or(Err("listen"))?;
+    let mut second = TcpPorts::new(&rt, &stop);
+    assert!(rt; second.listen(taken).is_err(), "the port is taken");
     Ok(())
 }
 
@@ -63,5 +66,35 @@ fn a_read_that_waits_ends_with_the_session(rt: HostRuntime) -> Result<(), Fail> 
     let mut standard = PolledSource::new(rt.stdin(), &stop);
     let mut piece = [0u8; 4];
     assert!(rt; standard.read(&mut piece) == Ok(0), "so is standard input");
+    Ok(())
+}
+
+#[test]
+fn a_write_that_nobody_takes_ends_with_the_session(rt: HostRuntime) -> Result<(), Fail> {
+    let stop = Stop::new();
+    let mut ports = TcpPorts::new(&rt, &stop);
+    let port = ports.listen(0).or(Err("listen"))?;
+    let (_input, mut output) = ports.connect(port).or(Err("connect"))?;
+    stop.set();
+    let piece = [7u8; 4096];
+    let mut taken = 0u32;
+    for _ in 0..20_000 {
+        if output.write(&piece).is_err() {
+            break;
+        }
+        taken = taken.saturating_add(1);
+    }
+    assert!(rt; taken > 0, "what there is room for goes out");
+    assert!(rt; taken < 20_000, "and then it fails");
+    Ok(())
+}
+
+#[test]
+fn standard_output_takes_a_line(rt: HostRuntime) -> Result<(), Fail> {
+    let stop = Stop::new();
+    let mut output = PolledSink::new(rt.stdout(), &stop);
+    assert!(rt; output.write(b"written by a test\n").is_ok(), "a line");
+    assert!(rt; output.finish().is_ok(), "and its end");
+    assert!(rt; output.write(b"x").is_err(), "nothing after the end");
     Ok(())
 }
