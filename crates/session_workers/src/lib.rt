@@ -14,6 +14,8 @@ mod reader_job;
 mod reply;
 mod resend_job;
 mod resender;
+#[cfg(test)]
+mod tests;
 mod worker_end;
 mod writer_job;
 

@@ -1,0 +1,11 @@
+pub mod CrewLemmas
+pub mod Crossing
+pub mod EndLemmas
+pub mod FeedLemmas
+pub mod GathersLemmas
+pub mod JoinLemmas
+pub mod MarkLemmas
+pub mod PieceLemmas
+pub mod SettleLemmas
+pub mod ShareLemmas
+pub mod WorkLemmas

@@ -1,0 +1,10 @@
+pub mod Counting
+pub mod Crews
+pub mod FeedLaws
+pub mod FeedRuns
+pub mod FeedTurns
+pub mod Fresh
+pub mod Gathers
+pub mod Parts
+pub mod Places
+pub mod Seats

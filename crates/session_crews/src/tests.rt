@@ -1,0 +1,4 @@
+//! Workers of feeders in memory, over an end and a shelf.
+
+mod bench;
+mod cases;
