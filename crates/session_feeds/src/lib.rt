@@ -7,6 +7,8 @@ mod ids;
 pub mod laws;
 mod putting;
 mod session;
+#[cfg(test)]
+mod tests;
 
 pub use feeder::{Came, Fed, Feeder};
 pub use ids::Ids;
