@@ -1,0 +1,9 @@
+pub mod BackLemmas
+pub mod Crossing
+pub mod DoneLemmas
+pub mod LawLemmas
+pub mod LeaveLemmas
+pub mod ListLemmas
+pub mod ServingLemmas
+pub mod StartLemmas
+pub mod StepLemmas
