@@ -1,0 +1,9 @@
+pub mod AddressLemmas
+pub mod CommandLemmas
+pub mod Faults
+pub mod KindLemmas
+pub mod OneKind
+pub mod Programs
+pub mod ReaderLemmas
+pub mod SessionLemmas
+pub mod Splits

@@ -1,0 +1,46 @@
+use Rattle.std.proofs.Common.{rules, ◌≡◌, ◌≤◌, ◌∙◌, List, length, map, ap, sym, subst}
+use Rattle.clap.specs.Words.{App, Text, app_of, fault_of, found_of, rows_of}
+use Rattle.program_words.proofs.Programs.{plugin_known}
+use Rattle.program_words.proofs.ReaderLemmas.{found_words, refused_words, said_fault, said_line, taken_words}
+use Rattle.program_words.specs.Commands.{plugin}
+use Rattle.program_words.specs.Faults.{AsksText, Tells}
+use Rattle.program_words.specs.PluginLine.{IsPluginLine, SaysPlugin}
+use Rattle.program_words.specs.declared.plugin_words.PluginWords.{PluginWords}
+use Rattle.program_words.proofs.plugin_words.read_plugin_words.Goals as goal
+
+pub find-requires-clause-one : goal.find-requires-clause-one
+find-requires-clause-one c = subst (λ (a : App). (texts : List Text) → length (fault_of a texts) ≤ 1)
+    (sym c.in_ok-command.ensures) plugin_known.one
+
+pub returns-in_err-matches-clause-fault : goal.returns-in_err-matches-clause-fault
+returns-in_err-matches-clause-fault c =
+    let words = c.args.words.now in
+    let told : Tells c.in_err-matches.field-0.0 (AsksText plugin words) ((x : PluginWords) × IsPluginLine x words) =
+    refused_words plugin (app_of c.in_ok-command.command) words (map (λ s. s.now) c.as_slice.result.now)
+    c.in_ok-command.ensures (ap (map (λ s. s.now)) c.as_slice.ensures.value ∙ c.in_ok-texts.ensures)
+    c.in_err-matches.field-0.0 ((x : PluginWords) × IsPluginLine x words) (λ l. l.1.0) c.in_err-matches.ensures.fault in
+    search rules
+
+pub returns-clause-line : goal.returns-clause-line
+returns-clause-line c =
+    let words = c.args.words.now in
+    let found = app_of c.in_ok-command.command in
+    let texts = map (λ s. s.now) c.as_slice.result.now in
+    let are : texts ≡ words = ap (map (λ s. s.now)) c.as_slice.ensures.value ∙ c.in_ok-texts.ensures in
+    let rows = rows_of (found_of c.in_ok-matches.matches) in
+    said_line SaysPlugin plugin words rows
+    (taken_words plugin found words texts c.in_ok-command.ensures are c.in_ok-matches.ensures.takes)
+    (found_words plugin found words texts c.in_ok-command.ensures are rows c.in_ok-matches.ensures.finds)
+    c.read_line.result c.read_line.ensures.line
+
+pub returns-clause-fault : goal.returns-clause-fault
+returns-clause-fault c =
+    let words = c.args.words.now in
+    let found = app_of c.in_ok-command.command in
+    let texts = map (λ s. s.now) c.as_slice.result.now in
+    let are : texts ≡ words = ap (map (λ s. s.now)) c.as_slice.ensures.value ∙ c.in_ok-texts.ensures in
+    let rows = rows_of (found_of c.in_ok-matches.matches) in
+    said_fault SaysPlugin plugin words rows
+    (taken_words plugin found words texts c.in_ok-command.ensures are c.in_ok-matches.ensures.takes)
+    (found_words plugin found words texts c.in_ok-command.ensures are rows c.in_ok-matches.ensures.finds)
+    c.read_line.result c.read_line.ensures.fault
