@@ -7,6 +7,7 @@ use Rattle.channel_core.specs.declared.call.EndCall.{EndCall}
 use Rattle.session_workers.specs.declared.read_state.ReadEnd.{ReadEnd}
 use Rattle.session_workers.specs.declared.worker_end.WorkerEnd.{WorkerEnd}
 use Rattle.session_workers.specs.ReaderRuns.{reader_closing}
+use Rattle.session_delivery.specs.declared.deliver_end.DeliverEnd.{DeliverEnd}
 use Rattle.session_end.specs.Deeds.{early_closes}
 use Rattle.session_end.specs.Ran.{closing_of}
 use Rattle.session_end.specs.Starts.{closing, closing_unless}
@@ -21,12 +22,18 @@ module _ (t : EndCall × EndAnswer → Bool) (none : t closing ≡ false) where
   unless_none false = one_none
 
   pub early_none : (written : Option WorkerEnd) (resent : Bool) (read : Option ReadEnd)
-      → list_any t (early_closes written resent read) ≡ false
-  early_none written resent read =
+      (delivered : Option DeliverEnd)
+      → list_any t (early_closes written resent read delivered) ≡ false
+  early_none written resent read delivered =
       none_append t (closing_unless (is_some written))
-      (closing_unless resent ++ closing_unless (is_some read)) (unless_none (is_some written))
-      (none_append t (closing_unless resent) (closing_unless (is_some read))
-      (unless_none resent) (unless_none (is_some read)))
+      (closing_unless resent
+      ++ (closing_unless (is_some read) ++ closing_unless (is_some delivered)))
+      (unless_none (is_some written))
+      (none_append t (closing_unless resent)
+      (closing_unless (is_some read) ++ closing_unless (is_some delivered))
+      (unless_none resent)
+      (none_append t (closing_unless (is_some read)) (closing_unless (is_some delivered))
+      (unless_none (is_some read)) (unless_none (is_some delivered))))
 
   pub reader_none : (over : Option ReadEnd) → list_any t (reader_closing over) ≡ false
   reader_none None = refl

@@ -21,12 +21,21 @@ use Rattle.session_workers.specs.ReaderRuns.{reader_closing}
 use Rattle.session_workers.specs.Reading.{ReaderStep, dials, gets, hears, opens, reader_calls}
 use Rattle.session_workers.specs.Resends.{ResendTurn, resend_calls}
 use Rattle.session_workers.specs.Writing.{WriterTurn, emits, end_calls, idles, starves}
+use Rattle.chan_values.specs.declared.item.Item.{Item}
+use Rattle.channel_core.specs.declared.answer.Look.{Look}
+use Rattle.channel_core.specs.declared.answer.Put.{Put}
+use Rattle.session_feeds.specs.Puts.{put_call}
+use Rattle.session_crews.specs.FeedTurns.{FeedPart, looking}
+use Rattle.session_delivery.specs.Delivering.{closing_deliverer}
+use Rattle.session_delivery.specs.declared.deliver_end.DeliverEnd.{DeliverEnd}
 use Rattle.session_end.specs.Causes.{is_ended, is_giving_up}
-use Rattle.session_end.specs.Deeds.{Deeds, early_closes, end_parts, read_end}
-use Rattle.session_end.specs.LinkParts.{resent_by}
+use Rattle.session_end.specs.Deeds.{Deeds, early_closes, end_parts, read_end, served_calls}
+use Rattle.session_end.specs.WorkerParts.{resent_by}
 use Rattle.session_end.specs.Parts.{IsMadeOf, entries_in}
 use Rattle.session_end.specs.Ran.{closing_of}
 use Rattle.session_end.proofs.ClosedLemmas.{none_tells, tells_closed}
+use Rattle.session_end.proofs.DeliveryLemmas.{NoneCloses, served_none}
+use Rattle.session_end.proofs.FeederEndLemmas.{AreUnrefused, unrefused_closing}
 use Rattle.session_end.proofs.HistoryLemmas.{later_in, made_before, none_append, none_each, none_in_four, none_or, not_true, or_none, same_any, some_in}
 use Rattle.session_end.proofs.ReaderEndLemmas.{closed_is_told, tells}
 
@@ -132,15 +141,34 @@ turn_none (starves now) = refl
 tick_none : (turn : ResendTurn) → list_any closing_call (resend_calls turn) ≡ false
 tick_none turn = refl
 
+put_none : (last : Bool) (item : Item) (id : List ℕ) (now : ℕ) (put : Put)
+    → closing_call (put_call last item id now, EndAnswer.Put put) ≡ false
+put_none true item id now put = refl
+put_none false item id now put = refl
+
+look_none : (look : Look) → closing_call (looking look) ≡ false
+look_none look = refl
+
+feeders_none : (fs : List FeedPart) → AreUnrefused fs
+    → NoneCloses closing_call put_none look_none fs
+feeders_none [] none = tt
+feeders_none (f ∷ fs) none = (
+  ap (list_any closing_call) (unrefused_closing f.ended none.0 none.1 none.2),
+  feeders_none fs none.3,
+)
+
 module _ (token : List ℕ) (d : Deeds) (w : ℕ) (h earlier : History)
     (is : h ≡ earlier ++ entry d.main EndCall.Close EndAnswer.Done ∷ [])
     (legal : IsLegalFor w (calls_of h)) (made : IsMadeOf h (end_parts token d))
     (written : d.written ≡ Some WorkerEnd.Closed)
     (read : read_end token d ≡ Some ReadEnd.Closed)
     (resent : (resent_by d.ticks).over ≡ true)
+    (delivered : d.delivery.ended ≡ Some DeliverEnd.Closed)
+    (unrefused : AreUnrefused d.delivery.feeders)
     (none_given : list_any given_entry h ≡ false) where
   abbrev early : List (EndCall × EndAnswer)
-  early = early_closes d.written (resent_by d.ticks).over (read_end token d)
+  early =
+      early_closes d.written (resent_by d.ticks).over (read_end token d) d.delivery.ended
 
   abbrev reader_part : List (EndCall × EndAnswer)
   reader_part = flat_map reader_calls d.steps ++ reader_closing (read_end token d)
@@ -155,7 +183,7 @@ module _ (token : List ℕ) (d : Deeds) (w : ℕ) (h earlier : History)
       ∷ (d.reader, reader_part)
       ∷ (d.writer, writer_part)
       ∷ (d.resender, flat_map resend_calls d.ticks)
-      ∷ []
+      ∷ served_calls d
 
   earlier_made : IsMadeOf earlier parts_before
   earlier_made =
@@ -166,8 +194,9 @@ module _ (token : List ℕ) (d : Deeds) (w : ℕ) (h earlier : History)
   none_closed =
       same_any close_entry earlier (entries_in parts_before) earlier_made
       ∙ none_in_four close_entry d.main d.reader d.writer d.resender early reader_part
-      writer_part (flat_map resend_calls d.ticks)
-      (λ i. list_any closing_call (early_closes (written i) (resent i) (read i)))
+      writer_part (flat_map resend_calls d.ticks) (served_calls d)
+      (λ i. list_any closing_call
+      (early_closes (written i) (resent i) (read i) (delivered i)))
       (none_append closing_call (flat_map reader_calls d.steps)
       (reader_closing (read_end token d))
       (none_each closing_call reader_calls d.steps step_none)
@@ -176,6 +205,9 @@ module _ (token : List ℕ) (d : Deeds) (w : ℕ) (h earlier : History)
       (none_each closing_call end_calls d.turns turn_none)
       (λ i. list_any closing_call (closing_of (written i))))
       (none_each closing_call resend_calls d.ticks tick_none)
+      (served_none closing_call put_none look_none d
+      (λ i. list_any closing_call (closing_deliverer (delivered i)))
+      (feeders_none d.delivery.feeders unrefused))
 
   -- an entry tells the reader that the end is closed
   some_told : list_any told_entry earlier ≡ true
@@ -183,9 +215,10 @@ module _ (token : List ℕ) (d : Deeds) (w : ℕ) (h earlier : History)
       same_any told_entry earlier (entries_in parts_before) earlier_made
       ∙ later_in told_entry d.main early
       ((d.reader, reader_part) ∷ (d.writer, writer_part)
-      ∷ (d.resender, flat_map resend_calls d.ticks) ∷ [])
+      ∷ (d.resender, flat_map resend_calls d.ticks) ∷ served_calls d)
       (some_in told_entry d.reader reader_part
-      ((d.writer, writer_part) ∷ (d.resender, flat_map resend_calls d.ticks) ∷ [])
+      ((d.writer, writer_part) ∷ (d.resender, flat_map resend_calls d.ticks)
+      ∷ served_calls d)
       (list_any-append tells (flat_map reader_calls d.steps)
       (reader_closing (read_end token d))
       ∙ ap (λ (b : Bool). b || list_any tells (reader_closing (read_end token d)))

@@ -13,13 +13,14 @@ use Rattle.session_workers.specs.ResendRuns.{Resent, none_resent, resent_after}
 use Rattle.session_workers.specs.Resends.{ResendTurn, gave_up, resend_calls}
 use Rattle.session_workers.specs.Writing.{WriterTurn, emits, end_calls, idles, starves}
 use Rattle.session_end.specs.Causes.{GaveUp, gives_up, is_giving_up}
-use Rattle.session_end.specs.Deeds.{Deeds, early_closes, end_parts, read_end}
-use Rattle.session_end.specs.LinkParts.{resent_by}
+use Rattle.session_end.specs.Deeds.{Deeds, early_closes, end_parts, read_end, served_calls}
+use Rattle.session_end.specs.WorkerParts.{resent_by}
 use Rattle.session_end.specs.Parts.{IsMadeOf, entries_in}
 use Rattle.session_end.specs.Ran.{closing_of}
 use Rattle.session_end.specs.Starts.{closing}
 use Rattle.session_end.proofs.CloseLemmas.{early_none, reader_none, writer_none}
-use Rattle.session_end.proofs.HistoryLemmas.{later_in, none_append, none_each, none_in_five, or_left, or_none, or_right, same_any, some_in}
+use Rattle.session_end.proofs.DeliveryLemmas.{served_none_at_all}
+use Rattle.session_end.proofs.HistoryLemmas.{later_in, none_append, none_each, none_in, none_in_both, none_in_four, or_left, or_none, or_right, same_any, some_in}
 
 abbrev pub gives : ℕ → EndCall × EndAnswer → Bool
 gives n c = gives_up n c.1
@@ -121,40 +122,43 @@ module _ (token : List ℕ) (d : Deeds) where
   parts_none : (resent_by d.ticks).gave_up ≡ None
       → list_any given_entry (entries_in (end_parts token d)) ≡ false
   parts_none is =
-      none_in_five given_entry d.main d.reader d.writer d.resender d.main
-      (early_closes d.written (resent_by d.ticks).over (read_end token d))
+      none_in_four given_entry d.main d.reader d.writer d.resender
+      (early_closes d.written (resent_by d.ticks).over (read_end token d) d.delivery.ended)
       (flat_map reader_calls d.steps ++ reader_closing (read_end token d))
       (flat_map end_calls d.turns ++ closing_of d.written)
       (flat_map resend_calls d.ticks)
-      (closing ∷ [])
-      (early_none giving refl d.written (resent_by d.ticks).over (read_end token d))
+      (served_calls d ++ (d.main, closing ∷ []) ∷ [])
+      (early_none giving refl d.written (resent_by d.ticks).over (read_end token d)
+      d.delivery.ended)
       (none_append giving (flat_map reader_calls d.steps) (reader_closing (read_end token d))
       (none_each giving reader_calls d.steps step_none)
       (reader_none giving refl (read_end token d)))
       (none_append giving (flat_map end_calls d.turns) (closing_of d.written)
       (none_each giving end_calls d.turns turn_none) (writer_none giving refl d.written))
       (ticks_none none_resent d.ticks is).1
-      refl
+      (none_in_both given_entry (served_calls d) ((d.main, closing ∷ []) ∷ [])
+      (served_none_at_all giving (λ last item id now put. refl) (λ look. refl) refl d)
+      (none_in given_entry d.main (closing ∷ []) [] refl refl))
 
   some_from : (n : ℕ) → GivenIn none_resent d.ticks n
       → list_any (gives_entry n) (entries_in (end_parts token d)) ≡ true
   some_from n (inl never) = absurd (cc)
   some_from n (inr some) =
       let early : List (EndCall × EndAnswer) =
-      early_closes d.written (resent_by d.ticks).over (read_end token d) in
+          early_closes d.written (resent_by d.ticks).over (read_end token d) d.delivery.ended in
       let of_reader : List (EndCall × EndAnswer) =
-      flat_map reader_calls d.steps ++ reader_closing (read_end token d) in
+          flat_map reader_calls d.steps ++ reader_closing (read_end token d) in
       let of_writer : List (EndCall × EndAnswer) =
-      flat_map end_calls d.turns ++ closing_of d.written in
+          flat_map end_calls d.turns ++ closing_of d.written in
       let ticks : List (EndCall × EndAnswer) = flat_map resend_calls d.ticks in
+      let others : List (ℕ × List (EndCall × EndAnswer)) =
+          served_calls d ++ (d.main, closing ∷ []) ∷ [] in
       later_in (gives_entry n) d.main early
-      ((d.reader, of_reader) ∷ (d.writer, of_writer) ∷ (d.resender, ticks)
-      ∷ (d.main, closing ∷ []) ∷ [])
+      ((d.reader, of_reader) ∷ (d.writer, of_writer) ∷ (d.resender, ticks) ∷ others)
       (later_in (gives_entry n) d.reader of_reader
-      ((d.writer, of_writer) ∷ (d.resender, ticks) ∷ (d.main, closing ∷ []) ∷ [])
-      (later_in (gives_entry n) d.writer of_writer
-      ((d.resender, ticks) ∷ (d.main, closing ∷ []) ∷ [])
-      (some_in (gives_entry n) d.resender ticks ((d.main, closing ∷ []) ∷ []) some)))
+      ((d.writer, of_writer) ∷ (d.resender, ticks) ∷ others)
+      (later_in (gives_entry n) d.writer of_writer ((d.resender, ticks) ∷ others)
+      (some_in (gives_entry n) d.resender ticks others some)))
 
   -- the end gave up what the ticks come to
   pub GaveUp-of : (h : List (Entry EndCall EndAnswer)) (g : Option ℕ)

@@ -138,31 +138,33 @@ module _ {C A : Type 0} (p : Entry C A → Bool) where
       list_any-append p (entries_by n calls) (entries_in parts)
       ∙ or_right (list_any p (entries_by n calls)) (list_any p (entries_in parts)) some
 
-  -- none of four parts
-  pub none_in_four : (n m k l : ℕ) (a b c d : List (C × A))
-      → list_any (passes_by n) a ≡ false
-      → list_any (passes_by m) b ≡ false
-      → list_any (passes_by k) c ≡ false
-      → list_any (passes_by l) d ≡ false
-      → list_any p (entries_in ((n, a) ∷ (m, b) ∷ (k, c) ∷ (l, d) ∷ [])) ≡ false
-  none_in_four n m k l a b c d one two three four =
-      none_in n a ((m, b) ∷ (k, c) ∷ (l, d) ∷ []) one
-      (none_in m b ((k, c) ∷ (l, d) ∷ []) two
-      (none_in k c ((l, d) ∷ []) three (none_in l d [] four refl)))
+  -- none of one list of parts, and none of the other
+  pub none_in_both : (parts others : List (ℕ × List (C × A)))
+      → list_any p (entries_in parts) ≡ false
+      → list_any p (entries_in others) ≡ false
+      → list_any p (entries_in (parts ++ others)) ≡ false
+  none_in_both [] others none other = other
+  none_in_both (part ∷ parts) others none other =
+      let split =
+      none_or (list_any p (entries_by part.0 part.1)) (list_any p (entries_in parts))
+      (sym (list_any-append p (entries_by part.0 part.1) (entries_in parts)) ∙ none) in
+      list_any-append p (entries_by part.0 part.1) (entries_in (parts ++ others))
+      ∙ or_none (list_any p (entries_by part.0 part.1))
+      (list_any p (entries_in (parts ++ others)))
+      split.0 (none_in_both parts others split.1 other)
 
-  -- none of five
-  pub none_in_five : (n m k l o : ℕ) (a b c d e : List (C × A))
+  -- none of four parts and of those behind them
+  pub none_in_four : (n m k l : ℕ) (a b c d : List (C × A)) (others : List (ℕ × List (C × A)))
       → list_any (passes_by n) a ≡ false
       → list_any (passes_by m) b ≡ false
       → list_any (passes_by k) c ≡ false
       → list_any (passes_by l) d ≡ false
-      → list_any (passes_by o) e ≡ false
-      → list_any p (entries_in ((n, a) ∷ (m, b) ∷ (k, c) ∷ (l, d) ∷ (o, e) ∷ [])) ≡ false
-  none_in_five n m k l o a b c d e one two three four five =
-      none_in n a ((m, b) ∷ (k, c) ∷ (l, d) ∷ (o, e) ∷ []) one
-      (none_in m b ((k, c) ∷ (l, d) ∷ (o, e) ∷ []) two
-      (none_in k c ((l, d) ∷ (o, e) ∷ []) three
-      (none_in l d ((o, e) ∷ []) four (none_in o e [] five refl))))
+      → list_any p (entries_in others) ≡ false
+      → list_any p (entries_in ((n, a) ∷ (m, b) ∷ (k, c) ∷ (l, d) ∷ others)) ≡ false
+  none_in_four n m k l a b c d others one two three four rest =
+      none_in n a ((m, b) ∷ (k, c) ∷ (l, d) ∷ others) one
+      (none_in m b ((k, c) ∷ (l, d) ∷ others) two
+      (none_in k c ((l, d) ∷ others) three (none_in l d others four rest)))
 
 -- none of what each gives
 pub none_each : {X Y : Type 0} (t : Y → Bool) (f : X → List Y) (xs : List X)
@@ -182,7 +184,7 @@ none_append t xs ys one other =
     list_any-append t xs ys ∙ or_none (list_any t xs) (list_any t ys) one other
 
 module _ {C A : Type 0} where
-  entries_in-push : (parts : List (ℕ × List (C × A))) (n : ℕ) (calls : List (C × A))
+  pub entries_in-push : (parts : List (ℕ × List (C × A))) (n : ℕ) (calls : List (C × A))
       → entries_in (parts ++ (n, calls) ∷ []) ≡ entries_in parts ++ entries_by n calls
   entries_in-push parts n calls =
       flat_map-append (λ (p : ℕ × List (C × A)). entries_by p.0 p.1) parts ((n, calls) ∷ [])

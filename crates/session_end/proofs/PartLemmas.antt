@@ -17,7 +17,7 @@ use Rattle.session_workers.specs.ReaderLaws.{state_after}
 use Rattle.session_workers.specs.ReaderSteps.{MayRead, first_state, reader_after}
 use Rattle.session_workers.specs.WriterRuns.{MayTurn, at_first, progress}
 use Rattle.session_workers.specs.Writing.{Departs, messages_in}
-use Rattle.session_end.specs.LinkParts.{ReaderPart, ResenderPart, WriterPart, resent_by}
+use Rattle.session_end.specs.WorkerParts.{ReaderPart, ResenderPart, WriterPart, resent_by}
 use Rattle.session_end.specs.Ran.{IsEndedBy, ReaderRan, ResenderRan, WriterRan}
 use Rattle.session_end.specs.Starts.{UnlessStarted}
 

@@ -10,6 +10,9 @@ use Rattle.channel_core.specs.declared.call.EndCall.{EndCall}
 use Rattle.turn_lock.specs.declared.view.Entry.{Entry}
 use Rattle.session_run.specs.declared.shelf_call.ShelfAnswer.{ShelfAnswer}
 use Rattle.session_run.specs.declared.shelf_call.ShelfCall.{ShelfCall}
+use Rattle.session_feeds.specs.declared.session.SessionFault.{SessionFault}
+use Rattle.session_crews.specs.FeedTurns.{FeedPart}
+use Rattle.session_crews.specs.declared.feed_end.FeedEnd.{FeedEnd}
 use Rattle.session_workers.specs.ReaderLaws.{EndsMissed, state_after}
 use Rattle.session_workers.specs.ReaderSteps.{MayTake}
 use Rattle.session_workers.specs.Reading.{ReaderStep, dials, dials_in, refuses}
@@ -56,19 +59,37 @@ pub record IsRefused (token : List ℕ) (steps : List ReaderStep) (reply : List 
   pub parts : steps ≡ earlier ++ dials opening reply refuses ∷ later
   pub said : MayTake (state_after token earlier).was_up reply refuses
 
+-- the closing of the other end was heard, and no call wanted memory
+pub record IsQuietEnd (h : List (Entry EndCall EndAnswer)) (k : List (Entry ShelfCall ShelfAnswer))
+    : Type 0 where
+  pub heard : list_any (λ e. is_ended e.answer) h ≡ true
+  pub end_memory : list_any (λ e. is_wanting e.answer) h ≡ false
+  pub shelf_memory : list_any (λ e. is_shelf_wanting e.answer) k ≡ false
+
+-- a feeder of these failed: its worker ended so, and the count of its failed calls rose
+pub record HasFailed (feeders : List FeedPart) : Type 0 where
+  pub earlier : List FeedPart
+  pub part : FeedPart
+  pub later : List FeedPart
+  pub parts : feeders ≡ earlier ++ part ∷ later
+  pub ended : part.ended ≡ Some FeedEnd.Failed
+  pub rose : Rises part.faults_before part.faults
+
 module _ (token : List ℕ) (d : Deeds) (h : List (Entry EndCall EndAnswer))
-    (k : List (Entry ShelfCall ShelfAnswer)) (spawned new_spawned : ℕ) where
-  -- the outcome has its cause: Ended that the closing of the other end was heard, and that no call
-  -- wanted memory; a refused reply, a link lost by six dials, a number given up, a start that failed
-  -- that they were. Want of memory alone needs none
+    (k : List (Entry ShelfCall ShelfAnswer)) (spawned new_spawned : ℕ)
+    (refusal : Option SessionFault) (agreed : Bool) where
+  -- the outcome has its cause: Ended and Unagreed that the closing of the other end was heard, that
+  -- no call wanted memory, and what the session says of its agreement; a refused reply, a link lost
+  -- by six dials, a number given up, a fault of the session or of a feeder, a start that failed that
+  -- they were. Want of memory alone needs none
   abbrev pub HasCause : Outcome → Type 0
-  HasCause Outcome.Ended =
-      (list_any (λ e. is_ended e.answer) h ≡ true)
-      × (list_any (λ e. is_wanting e.answer) h ≡ false)
-      × (list_any (λ e. is_shelf_wanting e.answer) k ≡ false)
+  HasCause Outcome.Ended = IsQuietEnd h k × (agreed ≡ true)
+  HasCause Outcome.Unagreed = IsQuietEnd h k × (agreed ≡ false)
   HasCause Outcome.NoMemory = Unit {0}
   HasCause (Outcome.Refused reply) = IsRefused token d.steps reply
   HasCause Outcome.LinkLost = EndsMissed 6 (flat_map dials_in d.steps)
   HasCause (Outcome.GaveUp n) = GaveUp (Some n) h
+  HasCause (Outcome.Fault fault) = refusal ≡ Some fault
+  HasCause Outcome.FeedFault = HasFailed d.delivery.feeders
   HasCause Outcome.NoThread = Rises spawned new_spawned
   HasCause Outcome.EntropyFault = ⊥

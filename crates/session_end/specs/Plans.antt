@@ -9,8 +9,8 @@ use Rattle.session_end.specs.Setups.{first_token, setting_of}
 pub record IsPlanOf (setup : Setup) (base : List ℕ) (plan : Plan) : Type 0 where
   pub setting : plan.setting ≡ setting_of setup base
   pub token : plan.token ≡ first_token setup
-  pub end : IsFirstSeat plan.ends setup.window plan.main
-  pub shelf : IsFirstSeat plan.shelf tt plan.shelf_main
+  pub end : IsFirstSeat plan.shared.ends setup.window plan.main
+  pub shelf : IsFirstSeat plan.shared.shelf tt plan.shelf_main
 
 -- the plan is that of some run
 abbrev pub IsPlan : Plan → Type 0

@@ -19,16 +19,7 @@ module _ {V C A T : Type 0} {g : Ghosts V C A T} where
     pub same_setting : setting_of kept ≡ setting_of old
     pub same_mine : mine_of kept ≡ mine_of old
 
-  -- of a seat three were made, whose shares make up the whole where its own did
-  pub record IsSplitInThree (old main first second : Seat V C A T g) : Type 0 where
-    pub kept : IsKept old main
-    pub first_above : IsAbove old main first
-    pub second_above : IsAbove old first second
-    pub whole :
-        HasWholeShare old
-        → IsWhole (sum_of (share_of main) (sum_of (share_of first) (share_of second)))
-
-  -- of a seat four were made
+  -- of a seat four were made, whose shares make up the whole where its own did
   pub record IsSplitInFour (old main first second third : Seat V C A T g) : Type 0 where
     pub kept : IsKept old main
     pub first_above : IsAbove old main first
@@ -40,14 +31,20 @@ module _ {V C A T : Type 0} {g : Ghosts V C A T} where
         (sum_of (share_of main)
         (sum_of (share_of first) (sum_of (share_of second) (share_of third))))
 
-  -- three seats were joined into the first
-  pub record IsJoinOfThree (main first second new : Seat V C A T g) : Type 0 where
-    pub same_lock : SameLock main new
-    pub same_number : number_of new ≡ number_of main
-    pub same_setting : setting_of new ≡ setting_of main
-    pub mine : mine_of new ≡ mine_of main ++ (mine_of first ++ mine_of second)
-    pub share :
-        share_of new ≡ sum_of (share_of main) (sum_of (share_of first) (share_of second))
+  -- of a seat five were made
+  pub record IsSplitInFive (old main first second third fourth : Seat V C A T g)
+      : Type 0 where
+    pub kept : IsKept old main
+    pub first_above : IsAbove old main first
+    pub second_above : IsAbove old first second
+    pub third_above : IsAbove old second third
+    pub fourth_above : IsAbove old third fourth
+    pub whole :
+        HasWholeShare old
+        → IsWhole
+        (sum_of (share_of main)
+        (sum_of (share_of first)
+        (sum_of (share_of second) (sum_of (share_of third) (share_of fourth)))))
 
   -- four seats were joined into the first
   pub record IsJoinOfFour (main first second third new : Seat V C A T g) : Type 0 where
@@ -61,3 +58,19 @@ module _ {V C A T : Type 0} {g : Ghosts V C A T} where
         share_of new
         ≡ sum_of (share_of main)
         (sum_of (share_of first) (sum_of (share_of second) (share_of third)))
+
+  -- five seats were joined into the first
+  pub record IsJoinOfFive (main first second third fourth new : Seat V C A T g)
+      : Type 0 where
+    pub same_lock : SameLock main new
+    pub same_number : number_of new ≡ number_of main
+    pub same_setting : setting_of new ≡ setting_of main
+    pub mine :
+        mine_of new
+        ≡ mine_of main
+        ++ (mine_of first ++ (mine_of second ++ (mine_of third ++ mine_of fourth)))
+    pub share :
+        share_of new
+        ≡ sum_of (share_of main)
+        (sum_of (share_of first)
+        (sum_of (share_of second) (sum_of (share_of third) (share_of fourth))))

@@ -1,7 +1,12 @@
-//! One run of one end of the data channel: its workers are started in threads over one end and one
-//! shelf, and joined again. The histories of both come back as receipts, and say who made which call.
+//! One run of one end of the data channel with its session: its workers are started in threads over
+//! one end and one shelf, and joined again. The histories of both come back as receipts, and say who
+//! made which call.
 #![tactic(auto)]
 
+mod crew;
+mod delivering;
+mod ends;
+mod leftover;
 mod outcome;
 mod plan;
 mod reading;
@@ -17,5 +22,5 @@ mod threads;
 mod writing;
 
 pub use outcome::Outcome;
-pub use run::{LinkRun, run_link};
+pub use run::{EndRun, run_end};
 pub use setup::Setup;

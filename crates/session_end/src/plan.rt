@@ -8,22 +8,37 @@ use chan_values::{NoMemory, Text};
 use session_run::{Held, Shelf};
 use session_workers::LinkSetting;
 use std::alloc::Global;
+use std::sync::atomic::AtomicU32;
 use turn_lock::{Seat, TurnLock};
 
-/// The two locks of a run with their first seats, and what its openings say.
+/// The number of the first worker of a feeder. Those of the other workers come before.
+const FIRST_FEEDER: u32 = 4;
+
+/// What the workers of a run share.
+#[derive(Drop)]
+pub(crate) struct Shared {
+    /// The lock over the end.
+    pub ends: TurnLock<Held>,
+    /// The lock over the shelf.
+    pub shelf: TurnLock<Shelf>,
+    /// From which the numbers of further workers are drawn.
+    pub numbers: AtomicU32,
+    /// What was drawn for the ids of the run.
+    pub base: [u8; 16],
+}
+
+/// What the workers share, the first seats of the locks, and what the openings say.
 #[derive(Drop)]
 pub(crate) struct Plan {
     /// What stays the same in all openings.
     pub setting: LinkSetting,
     /// The digits of the token of the first opening.
     pub token: Text,
-    /// The lock over the end.
-    pub ends: TurnLock<Held>,
-    /// Its first seat.
+    /// What the workers share.
+    pub shared: Shared,
+    /// The first seat on the lock over the end.
     pub main: Seat<Held>,
-    /// The lock over the shelf.
-    pub shelf: TurnLock<Shelf>,
-    /// Its first seat.
+    /// The first seat on the lock over the shelf.
     pub shelf_main: Seat<Shelf>,
 }
 
@@ -41,9 +56,13 @@ impl Plan {
         Ok(Plan {
             setting,
             token,
-            ends,
+            shared: Shared {
+                ends,
+                shelf,
+                numbers: AtomicU32::new(FIRST_FEEDER),
+                base,
+            },
             main,
-            shelf,
             shelf_main,
         })
     }

@@ -3,7 +3,7 @@
 
 ghost use Rattle.std.specs.Prelude.{◌≡◌};
 ghost use Rattle.turn_lock.specs.Seats.{IsSeatOf};
-ghost use Rattle.session_end.specs.Seats.{IsJoinOfFour, IsJoinOfThree, IsSplitInFour, IsSplitInThree};
+ghost use Rattle.session_end.specs.Seats.{IsJoinOfFive, IsJoinOfFour, IsSplitInFive, IsSplitInFour};
 
 use session_run::{Held, Shelf};
 use turn_lock::{Seat, TurnLock};
@@ -19,13 +19,16 @@ pub(crate) struct EndSeats {
     pub writer: Seat<Held>,
     /// That of the resend worker.
     pub resender: Seat<Held>,
+    /// That of the deliverer.
+    pub deliverer: Seat<Held>,
 }
 
 impl EndSeats {
     /// Splits off the seats of the workers.
     pub(crate) fn split(ends: &TurnLock<Held>, mut main: Seat<Held>) -> EndSeats
         requires { IsSeatOf ends.now main }
-        ensures { IsSplitInFour main result.main result.reader result.writer result.resender }
+        ensures { IsSplitInFive main result.main result.reader result.writer result.resender
+            result.deliverer }
     {
         let Ok(mut reader) = ends.split(&mut main) else {
             unreachable!()
@@ -33,7 +36,10 @@ impl EndSeats {
         let Ok(mut writer) = ends.split(&mut reader) else {
             unreachable!()
         };
-        let Ok(resender) = ends.split(&mut writer) else {
+        let Ok(mut resender) = ends.split(&mut writer) else {
+            unreachable!()
+        };
+        let Ok(deliverer) = ends.split(&mut resender) else {
             unreachable!()
         };
         EndSeats {
@@ -41,6 +47,7 @@ impl EndSeats {
             reader,
             writer,
             resender,
+            deliverer,
         }
     }
 
@@ -50,14 +57,18 @@ impl EndSeats {
         requires reader { IsSeatOf ends.now self.reader }
         requires writer { IsSeatOf ends.now self.writer }
         requires resender { IsSeatOf ends.now self.resender }
-        ensures { IsJoinOfFour self.main self.reader self.writer self.resender result }
+        requires deliverer { IsSeatOf ends.now self.deliverer }
+        ensures { IsJoinOfFive self.main self.reader self.writer self.resender self.deliverer
+            result }
     {
         let EndSeats {
             mut main,
             mut reader,
             mut writer,
-            resender,
+            mut resender,
+            deliverer,
         } = self;
+        ends.join(&mut resender, deliverer);
         ends.join(&mut writer, resender);
         ends.join(&mut reader, writer);
         ends.join(&mut main, reader);
@@ -74,24 +85,30 @@ pub(crate) struct ShelfSeats {
     pub reader: Seat<Shelf>,
     /// That of the link writer.
     pub writer: Seat<Shelf>,
+    /// That of the deliverer.
+    pub deliverer: Seat<Shelf>,
 }
 
 impl ShelfSeats {
     /// Splits off the seats of the workers.
     pub(crate) fn split(shelf: &TurnLock<Shelf>, mut main: Seat<Shelf>) -> ShelfSeats
         requires { IsSeatOf shelf.now main }
-        ensures { IsSplitInThree main result.main result.reader result.writer }
+        ensures { IsSplitInFour main result.main result.reader result.writer result.deliverer }
     {
         let Ok(mut reader) = shelf.split(&mut main) else {
             unreachable!()
         };
-        let Ok(writer) = shelf.split(&mut reader) else {
+        let Ok(mut writer) = shelf.split(&mut reader) else {
+            unreachable!()
+        };
+        let Ok(deliverer) = shelf.split(&mut writer) else {
             unreachable!()
         };
         ShelfSeats {
             main,
             reader,
             writer,
+            deliverer,
         }
     }
 
@@ -100,13 +117,16 @@ impl ShelfSeats {
         requires main { IsSeatOf shelf.now self.main }
         requires reader { IsSeatOf shelf.now self.reader }
         requires writer { IsSeatOf shelf.now self.writer }
-        ensures { IsJoinOfThree self.main self.reader self.writer result }
+        requires deliverer { IsSeatOf shelf.now self.deliverer }
+        ensures { IsJoinOfFour self.main self.reader self.writer self.deliverer result }
     {
         let ShelfSeats {
             mut main,
             mut reader,
-            writer,
+            mut writer,
+            deliverer,
         } = self;
+        shelf.join(&mut writer, deliverer);
         shelf.join(&mut reader, writer);
         shelf.join(&mut main, reader);
         main

@@ -1,111 +1,94 @@
 //! The workers of a run taken apart, once they were joined.
 
-ghost use Rattle.std.specs.Prelude.{◌≡◌, ◌&&◌, is_some};
-ghost use Rattle.session_end.specs.Outcomes.{outcome_of};
+ghost use Rattle.std.specs.Prelude.{◌≡◌};
+ghost use Rattle.session_end.specs.Leftovers.{end_with};
+ghost use Rattle.session_end.specs.Settling.{ends_after, link_after, seats_after, shelf_seats_after};
 
-use crate::outcome::{Outcome, outcome_of};
-use crate::reading::AfterReader;
-use crate::resending::AfterResender;
+use crate::crew::Joined;
+use crate::ends::Ends;
 use crate::seats::{EndSeats, ShelfSeats};
-use crate::writing::AfterWriter;
 use chan_io::Link;
+use session_delivery::DeliverEnd;
+use session_feeds::{Session, SessionFault};
 use session_run::Shelf;
-use session_workers::{LinkReader, LinkWriter, Resender};
 use turn_lock::Seat;
 
 /// What the workers leave.
 #[derive(Drop)]
-pub(crate) struct Settled<D, N, U, W> {
-    /// What their ends come to.
-    pub outcome: Outcome,
+pub(crate) struct Settled<D, N, U, S, W> {
+    /// How they ended.
+    pub ends: Ends,
     /// The link.
     pub link: Link<D, N, U>,
     /// The seats on the lock over the end.
     pub seats: EndSeats,
     /// The seats on the lock over the shelf.
     pub shelf_seats: ShelfSeats,
+    /// The session.
+    pub session: S,
     /// What started them.
     pub spawner: W,
 }
 
 /// Takes the workers apart.
-pub(crate) fn settle<D, N, U, W>(
-    after: AfterWriter<D, N, U, W>,
+pub(crate) fn settle<D, N, U, S: Session, W>(
+    joined: Joined<D, N, U, S, W>,
     shelf_main: Seat<Shelf>,
-) -> Settled<D, N, U, W>
-    ensures outcome { result.outcome ≡ outcome_of after.end after.rest.rest.reader.state.over
-        after.rest.gave_up ((is_some after.end && after.rest.resender.over)
-        && is_some after.rest.rest.reader.state.over) }
-    ensures link { result.link ≡ record {
-      dialer = after.rest.rest.reader.dialer;
-      input = after.rest.rest.reader.input;
-      output = after.writer.output;
-    } }
-    ensures seats { result.seats ≡ record {
-      main = after.rest.rest.main;
-      reader = after.rest.rest.reader.end;
-      writer = after.writer.end;
-      resender = after.rest.resender.end;
-    } }
-    ensures shelf_seats { result.shelf_seats ≡ record {
-      main = shelf_main;
-      reader = after.rest.rest.reader.shelf;
-      writer = after.writer.shelf;
-    } }
-    ensures spawner { result.spawner ≡ after.rest.rest.spawner }
+) -> Settled<D, N, U, S, W>
+    ensures ends { result.ends ≡ ends_after joined (S.agreed joined.service.session) }
+    ensures link { result.link ≡ link_after joined }
+    ensures seats { result.seats ≡ seats_after joined }
+    ensures shelf_seats { result.shelf_seats ≡ shelf_seats_after joined shelf_main }
+    ensures session { result.session ≡ joined.service.session }
+    ensures spawner { result.spawner ≡ joined.spawner }
 {
-    let AfterWriter {
-        writer,
-        end: writer_end,
-        rest,
-    } = after;
-    let AfterResender {
-        resender,
-        gave_up,
-        rest,
-    } = rest;
-    let AfterReader {
-        reader,
-        main,
-        spawner,
-    } = rest;
-    let LinkWriter {
-        output,
-        end: writer_seat,
-        shelf: writer_shelf,
-        ..
-    } = writer;
-    let Resender {
-        end: resender_seat,
-        over,
-    } = resender;
-    let LinkReader {
-        dialer,
-        input,
-        end: reader_seat,
-        shelf: reader_shelf,
-        state,
-        ..
-    } = reader;
-    let all_started = writer_end.is_some() && over && state.over.is_some();
+    let service = joined.service;
+    let agreed = service.session.agreed();
+    let reader = joined.reader;
+    let state = reader.state;
+    let writer = joined.writer;
+    let resender = joined.resender;
     Settled {
-        outcome: outcome_of(writer_end, state.over, gave_up, all_started),
+        ends: Ends {
+            writer: joined.written,
+            reader: state.over,
+            resent: resender.over,
+            gave_up: joined.gave_up,
+            started: joined.started,
+            delivered: end_with(joined.refused, joined.ended),
+            refusals: joined.refusals,
+            agreed,
+        },
         link: Link {
-            dialer,
-            input,
-            output,
+            dialer: reader.dialer,
+            input: reader.input,
+            output: writer.output,
         },
         seats: EndSeats {
-            main,
-            reader: reader_seat,
-            writer: writer_seat,
-            resender: resender_seat,
+            main: joined.main,
+            reader: reader.end,
+            writer: writer.end,
+            resender: resender.end,
+            deliverer: service.end,
         },
         shelf_seats: ShelfSeats {
             main: shelf_main,
-            reader: reader_shelf,
-            writer: writer_shelf,
+            reader: reader.shelf,
+            writer: writer.shelf,
+            deliverer: service.shelf,
         },
-        spawner,
+        session: service.session,
+        spawner: joined.spawner,
+    }
+}
+
+/// How the deliverer ended, where this refusal behind the join counts as its own.
+fn end_with(refused: Option<SessionFault>, ended: Option<DeliverEnd>) -> Option<DeliverEnd>
+    ensures { result ≡ end_with refused ended }
+{
+    match refused {
+        Some(SessionFault::NoMemory) => Some(DeliverEnd::NoMemory),
+        Some(fault) => Some(DeliverEnd::Fault(fault)),
+        None => ended,
     }
 }

@@ -7,34 +7,54 @@ ghost use Rattle.session_run.specs.Adds.{AddsCalls};
 ghost use Rattle.session_end.specs.Starts.{IsStartOf, closing_unless};
 
 use chan_io::{Clock, Job, Running, Spawner};
+use session_crews::RunContext;
 use session_run::Held;
 use session_run::end_seat::close;
 use std::sync::Wait;
-use std::thread::{Scope, Threads};
-use turn_lock::{Seat, TurnLock};
+use std::thread::Threads;
+use turn_lock::Seat;
 
 /// Starts a job. Where it can't be started the end is closed at once, so that all other workers end
 /// before anybody waits for them.
-pub(crate) fn start_or_close<'s, 'e, R: Threads + Wait + Sync, C: Clock, W: Spawner, J: Job + 's>(
-    rt: &'s R,
-    scope: &'s Scope<'s, &'e ()>,
-    ends: &TurnLock<Held>,
-    clock: &C,
+pub(crate) fn start_or_close<
+    's,
+    'e,
+    R: Threads + Wait + Sync,
+    C: Clock,
+    G,
+    W: Spawner,
+    J: Job + 's,
+>(
+    ctx: &RunContext<'s, 'e, R, C, G>,
     main: &mut Seat<Held>,
     spawner: &mut W,
     job: J,
 ) -> Result<Running<'s, J>, J>
-    requires { IsSeatOf ends.now main.old }
+    requires { IsSeatOf ctx.now.ends.now main.old }
     ensures start { IsStartOf J.may_end job result }
     ensures calls { AddsCalls main.old (closing_unless (is_ok result)) main.new }
     ensures failed { OnErr result (Rises (W.faults spawner.old) (W.faults spawner.new)) }
     ensures counted { W.faults spawner.old ≤ W.faults spawner.new }
 {
-    match spawner.start(rt, scope, job) {
+    match spawner.start(ctx.rt, ctx.scope, job) {
         Ok(running) => Ok(running),
         Err(job) => {
-            close(rt, ends, main, clock);
+            close(ctx.rt, ctx.ends, main, ctx.clock);
             Err(job)
         }
+    }
+}
+
+/// Closes the end unless a worker ran.
+pub(crate) fn close_unless<R: Wait, C: Clock, G>(
+    ctx: &RunContext<'_, '_, R, C, G>,
+    main: &mut Seat<Held>,
+    ran: bool,
+)
+    requires { IsSeatOf ctx.now.ends.now main.old }
+    ensures { AddsCalls main.old (closing_unless ran) main.new }
+{
+    if !ran {
+        close(ctx.rt, ctx.ends, main, ctx.clock);
     }
 }

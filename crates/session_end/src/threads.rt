@@ -1,98 +1,27 @@
 //! The scope in which the threads of a run live.
 
-ghost use Rattle.std.specs.Prelude.{◌≡◌, false};
+ghost use Rattle.std.specs.Prelude.{◌≡◌};
 ghost use Rattle.std.specs.Thread.{IsSync};
-ghost use Rattle.session_workers.specs.ReaderSteps.{first_state};
-ghost use Rattle.session_end.specs.Crews.{CrewRan, IsCrewOf};
+ghost use Rattle.session_end.specs.Crews.{CrewRan, IsCrewOf, StartedRan};
 
-use crate::seats::EndSeats;
+use crate::crew::{Crew, Joined};
+use crate::delivering::AfterDeliverer;
+use crate::leftover::serve_left;
+use crate::plan::Shared;
+use crate::reading::AfterReader;
+use crate::resending::AfterResender;
 use crate::writing::{AfterWriter, run_workers};
-use chan_io::{Clock, Dialer, Link, LinkIn, LinkOut, Spawner};
-use chan_values::Text;
-use session_run::{Gate, Held, Shelf};
-use session_workers::{
-    LinkReader, LinkSetting, LinkWriter, ReadState, ReaderJob, ResendJob, Resender, WriterJob,
-};
+use chan_io::{Clock, Dialer, LinkIn, LinkOut, Spawner};
+use session_crews::RunContext;
+use session_feeds::Session;
+use session_run::Gate;
+use session_workers::{ReaderJob, ResendJob, WriterJob};
 use std::alloc::Global;
 use std::sync::Wait;
 use std::thread;
 use std::thread::{Scope, Threads};
-use turn_lock::{Seat, TurnLock};
 
-/// The workers of a run, and the seat that closes the end where one can't be started.
-#[derive(Drop)]
-pub(crate) struct Crew<D, N, U> {
-    /// The link reader.
-    pub reader: LinkReader<D, N>,
-    /// The link writer.
-    pub writer: LinkWriter<U>,
-    /// The resend worker.
-    pub resender: Resender,
-    /// The seat into which those of the workers are joined.
-    pub main: Seat<Held>,
-}
-
-impl<D, N, U> Crew<D, N, U> {
-    /// The workers before their first turns, with these seats.
-    pub(crate) fn new(
-        setting: LinkSetting,
-        token: Text,
-        link: Link<D, N, U>,
-        seats: EndSeats,
-        reader_shelf: Seat<Shelf>,
-        writer_shelf: Seat<Shelf>,
-    ) -> Crew<D, N, U>
-        ensures { result ≡ record {
-          reader = record {
-            setting = setting;
-            dialer = link.dialer;
-            input = link.input;
-            end = seats.reader;
-            shelf = reader_shelf;
-            state = first_state token;
-          };
-          writer = record {
-            side = setting.side;
-            output = link.output;
-            end = seats.writer;
-            shelf = writer_shelf;
-            told = 0;
-            over = false;
-          };
-          resender = record { end = seats.resender; over = false };
-          main = seats.main;
-        } }
-    {
-        let writer = LinkWriter {
-            side: setting.side,
-            output: link.output,
-            end: seats.writer,
-            shelf: writer_shelf,
-            told: 0,
-            over: false,
-        };
-        let reader = LinkReader {
-            setting,
-            dialer: link.dialer,
-            input: link.input,
-            end: seats.reader,
-            shelf: reader_shelf,
-            state: ReadState::new(token),
-        };
-        let resender = Resender {
-            end: seats.resender,
-            over: false,
-        };
-        Crew {
-            reader,
-            writer,
-            resender,
-            main: seats.main,
-        }
-    }
-}
-
-/// Runs the workers in threads of a scope of their own.
+/// Runs the workers in threads of a scope of their own, and serves what they left.
 pub(crate) fn in_threads<
     'e,
     R: Threads + Wait + Sync + 'e,
@@ -101,34 +30,50 @@ pub(crate) fn in_threads<
     D: Dialer + Send + Drop + 'e,
     N: LinkIn + Send + Drop + 'e,
     U: LinkOut + Send + Drop + 'e,
-    W: Spawner + 'e,
+    S: Session + 'e,
+    W: Spawner + Send + 'e,
 >(
     rt: &'e R,
     alloc: Global,
-    ends: &'e TurnLock<Held>,
-    shelf: &'e TurnLock<Shelf>,
+    shared: &'e Shared,
     clock: &'e C,
     gate: &'e G,
-    crew: Crew<D, N, U>,
+    crew: Crew<D, N, U, S>,
     spawner: W,
-) -> AfterWriter<D, N, U, W>
-    requires { IsCrewOf ends.now shelf.now crew }
-    ensures { CrewRan D.dials D.faults N.arrivals N.faults U.departures U.faults crew result
-        (W.faults spawner) (W.faults result.rest.rest.spawner) }
+) -> Joined<D, N, U, S, W>
+where
+    S::F: 'e,
+    requires { IsCrewOf S.begun S.out shared.now.ends shared.now.shelf crew }
+    ensures { CrewRan D.dials D.faults N.arrivals N.faults U.departures U.faults S.stands S.out
+        S.begun S.refused crew result (W.faults spawner) (W.faults result.spawner) }
 {
     thread::scope(
         thread::scope_env::<'e>(),
         rt,
-        move |scope| -> AfterWriter<D, N, U, W>
-            requires crew { IsCrewOf ends.now shelf.now crew }
+        move |scope| -> Joined<D, N, U, S, W>
+            requires crew { IsCrewOf S.begun S.out shared.now.ends shared.now.shelf crew }
             requires sync { IsSync R.row }
-            ensures { CrewRan D.dials D.faults N.arrivals N.faults U.departures U.faults crew
-                result (W.faults spawner) (W.faults result.rest.rest.spawner) }
-        { run_crew(rt, scope, alloc, ends, shelf, clock, gate, crew, spawner) },
+            ensures { CrewRan D.dials D.faults N.arrivals N.faults U.departures U.faults S.stands
+                S.out S.begun S.refused crew result (W.faults spawner)
+                (W.faults result.spawner) }
+        {
+            let ctx = RunContext {
+                rt,
+                scope,
+                alloc,
+                ends: &shared.ends,
+                shelf: &shared.shelf,
+                clock,
+                gate,
+                numbers: &shared.numbers,
+                base: shared.base,
+            };
+            run_crew(&ctx, crew, spawner)
+        },
     )
 }
 
-/// Starts the workers in this scope, and joins them.
+/// Starts the workers in this scope, joins them, and serves what they left.
 fn run_crew<
     's,
     'e,
@@ -138,54 +83,106 @@ fn run_crew<
     D: Dialer + Send + Drop + 's,
     N: LinkIn + Send + Drop + 's,
     U: LinkOut + Send + Drop + 's,
-    W: Spawner,
+    S: Session + 's,
+    W: Spawner + Send + 's,
 >(
-    rt: &'s R,
-    scope: &'s Scope<'s, &'e ()>,
-    alloc: Global,
-    ends: &'s TurnLock<Held>,
-    shelf: &'s TurnLock<Shelf>,
-    clock: &'s C,
-    gate: &'s G,
-    crew: Crew<D, N, U>,
+    ctx: &RunContext<'s, 'e, R, C, G>,
+    crew: Crew<D, N, U, S>,
     spawner: W,
-) -> AfterWriter<D, N, U, W>
-    requires { IsCrewOf ends.now shelf.now crew }
-    ensures { CrewRan D.dials D.faults N.arrivals N.faults U.departures U.faults crew result
-        (W.faults spawner) (W.faults result.rest.rest.spawner) }
+) -> Joined<D, N, U, S, W>
+where
+    S::F: 's,
+    requires { IsCrewOf S.begun S.out ctx.now.ends.now ctx.now.shelf.now crew }
+    ensures { CrewRan D.dials D.faults N.arrivals N.faults U.departures U.faults S.stands S.out
+        S.begun S.refused crew result (W.faults spawner) (W.faults result.spawner) }
+{
+    let AfterWriter { writer, end, rest } = start_crew(ctx, crew, spawner);
+    let AfterResender {
+        resender,
+        gave_up,
+        rest,
+    } = rest;
+    let AfterReader { reader, rest } = rest;
+    let AfterDeliverer {
+        mut service,
+        refusals,
+        ended,
+        started,
+        main,
+        spawner,
+    } = rest;
+    let refused = serve_left(ctx, &mut service, ended);
+    Joined {
+        writer,
+        written: end,
+        resender,
+        gave_up,
+        reader,
+        service,
+        refusals,
+        ended,
+        started,
+        refused,
+        main,
+        spawner,
+    }
+}
+
+/// Starts the workers in this scope, and joins them.
+fn start_crew<
+    's,
+    'e,
+    R: Threads + Wait + Sync + 's,
+    C: Clock + Sync + 's,
+    G: Gate + 's,
+    D: Dialer + Send + Drop + 's,
+    N: LinkIn + Send + Drop + 's,
+    U: LinkOut + Send + Drop + 's,
+    S: Session + 's,
+    W: Spawner + Send + 's,
+>(
+    ctx: &RunContext<'s, 'e, R, C, G>,
+    crew: Crew<D, N, U, S>,
+    spawner: W,
+) -> AfterWriter<D, N, U, S, W>
+where
+    S::F: 's,
+    requires { IsCrewOf S.begun S.out ctx.now.ends.now ctx.now.shelf.now crew }
+    ensures { StartedRan D.dials D.faults N.arrivals N.faults U.departures U.faults S.stands S.out
+        S.begun S.refused crew result (W.faults spawner)
+        (W.faults result.rest.rest.rest.spawner) }
 {
     let Crew {
         reader,
         writer,
         resender,
+        service,
         main,
     } = crew;
     let writer = WriterJob {
-        rt,
-        alloc,
-        ends,
-        shelf,
-        clock,
-        gate,
+        rt: ctx.rt,
+        alloc: ctx.alloc,
+        ends: ctx.ends,
+        shelf: ctx.shelf,
+        clock: ctx.clock,
+        gate: ctx.gate,
         writer,
     };
     let resender = ResendJob {
-        rt,
-        ends,
-        clock,
-        gate,
+        rt: ctx.rt,
+        ends: ctx.ends,
+        clock: ctx.clock,
+        gate: ctx.gate,
         resender,
     };
     let reader = ReaderJob {
-        rt,
-        alloc,
-        ends,
-        shelf,
-        clock,
-        gate,
+        rt: ctx.rt,
+        alloc: ctx.alloc,
+        ends: ctx.ends,
+        shelf: ctx.shelf,
+        clock: ctx.clock,
+        gate: ctx.gate,
         reader,
     };
-    run_workers(
-        rt, scope, ends, clock, main, spawner, writer, resender, reader,
-    )
+    run_workers(ctx, main, spawner, writer, resender, reader, service)
 }

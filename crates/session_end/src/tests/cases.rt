@@ -1,42 +1,39 @@
-//! What a run comes to.
+//! What runs meet, and what each comes to.
 
 use super::coming::Coming;
-use super::runs::{ACCEPTED, ENDED, Met, REFUSED, is_opened_with, letters, run};
-use crate::Outcome;
-use chan_io::{FaultySpawner, SteadySpawner};
-use chan_values::NoMemory;
-use session_run::OpenGate;
-use std::alloc::Global;
-use std::sync::Wait;
-use std::test::Fail;
-use std::thread::Threads;
+use super::runs::{ACCEPTED, ENDED, Met, REFUSED};
 
 /// What a run meets, and what it comes to.
 #[derive(Clone, Copy)]
-struct Case {
-    what: &'static str,
-    met: Met,
-    /// The starts that fail: of the link writer 0, of the resend worker 1, of the link reader 2.
-    unstarted: &'static [u64],
+pub(crate) struct Case {
+    pub(crate) what: &'static str,
+    pub(crate) met: Met,
+    /// What the session does.
+    pub(crate) serving: Serving,
+    /// The starts that fail: of the link writer 0, of the resend worker 1, of the link reader 2, of the
+    /// deliverer 3.
+    pub(crate) unstarted: &'static [u64],
     /// The outcome's name.
-    outcome: &'static str,
-    /// How many dials were made.
-    dials: usize,
-    /// The parcels that nobody took.
-    parcels: &'static str,
+    pub(crate) outcome: &'static str,
+    /// How many dials were made, where no schedule changes it.
+    pub(crate) dials: Option<usize>,
+    /// What the session took.
+    pub(crate) letters: &'static str,
 }
 
-/// The name of an outcome.
-fn name_of(outcome: &Outcome) -> &'static str {
-    match outcome {
-        Outcome::Ended => "ended",
-        Outcome::NoMemory => "no memory",
-        Outcome::Refused(_) => "refused",
-        Outcome::LinkLost => "link lost",
-        Outcome::GaveUp(_) => "gave up",
-        Outcome::NoThread => "no thread",
-        Outcome::EntropyFault => "entropy fault",
-    }
+/// What a session does in a case.
+#[derive(Clone, Copy, PartialEq, Eq)]
+pub(crate) enum Serving {
+    /// It takes all parcels, and both sides agreed on it.
+    Agreed,
+    /// The same, and they did not.
+    Unagreed,
+    /// It refuses the second parcel.
+    Refuses,
+    /// It lets out a feeder that gives three pieces.
+    Feeds,
+    /// It lets out a feeder that fails at once.
+    Fails,
 }
 
 /// Nothing comes.
@@ -47,20 +44,25 @@ const NOTHING: Met = Met {
     undrawn: false,
 };
 
-/// Whether a case comes to what it says. The link is shut once exactly where the run was begun.
-fn holds<R: Threads + Wait + Sync>(rt: &R, alloc: Global, case: &Case) -> Result<bool, NoMemory> {
-    let unstarted = Vec::from_slice(alloc, case.unstarted)?;
-    let spawner = FaultySpawner::new(alloc, unstarted);
-    let ran = run(rt, alloc, &case.met, spawner, &OpenGate)?;
-    let shuts = if ran.ends.is_some() { 1 } else { 0 };
-    let parcels = letters(alloc, ran.left)?;
-    Ok(
-        name_of(&ran.outcome) == case.outcome
-            && ran.link.dialer.dials().len() == case.dials
-            && ran.link.output.shuts() == shuts
-            && parcels.as_str() == case.parcels,
-    )
-}
+/// Two messages, a connection that is lost, and the end of the session.
+const ONE: Met = Met {
+    replies: &[ACCEPTED, ENDED],
+    missed: &[],
+    coming: &[
+        Coming::Message(0, b'a', false),
+        Coming::Message(1, b'b', false),
+        Coming::Gone,
+    ],
+    undrawn: false,
+};
+
+/// A connection on which nothing comes, and the end of the session.
+const QUIET: Met = Met {
+    replies: &[ACCEPTED, ENDED],
+    missed: &[],
+    coming: &[Coming::Gone],
+    undrawn: false,
+};
 
 /// Three messages, and then the connection is lost; three times.
 const THREE_BY_THREE: &[Coming] = &[
@@ -89,7 +91,7 @@ const DAMAGED: &[Coming] = &[
     Coming::Gone,
 ];
 
-const CASES: &[Case] = &[
+pub(crate) const CASES: &[Case] = &[
     Case {
         what: "a run over a link that is lost after every third message",
         met: Met {
@@ -98,10 +100,11 @@ const CASES: &[Case] = &[
             coming: THREE_BY_THREE,
             undrawn: false,
         },
+        serving: Serving::Agreed,
         unstarted: &[],
         outcome: "ended",
-        dials: 4,
-        parcels: "abcdefghi.",
+        dials: Some(4),
+        letters: "abcdefghi.",
     },
     Case {
         what: "a run whose messages are damaged",
@@ -111,10 +114,11 @@ const CASES: &[Case] = &[
             coming: DAMAGED,
             undrawn: false,
         },
+        serving: Serving::Agreed,
         unstarted: &[],
         outcome: "ended",
-        dials: 2,
-        parcels: "ab",
+        dials: Some(2),
+        letters: "ab",
     },
     Case {
         what: "a run whose dialer fails for a while",
@@ -124,10 +128,11 @@ const CASES: &[Case] = &[
             coming: &[Coming::Message(0, b'a', false), Coming::Gone],
             undrawn: false,
         },
+        serving: Serving::Agreed,
         unstarted: &[],
         outcome: "ended",
-        dials: 12,
-        parcels: "a",
+        dials: Some(12),
+        letters: "a",
     },
     Case {
         what: "a run that hears the closing",
@@ -137,18 +142,20 @@ const CASES: &[Case] = &[
             coming: &[Coming::Message(0, b'a', false), Coming::Closing],
             undrawn: false,
         },
+        serving: Serving::Agreed,
         unstarted: &[],
         outcome: "ended",
-        dials: 1,
-        parcels: "a",
+        dials: Some(1),
+        letters: "a",
     },
     Case {
         what: "a run whose dials fail",
         met: NOTHING,
+        serving: Serving::Agreed,
         unstarted: &[],
         outcome: "link lost",
-        dials: 6,
-        parcels: "",
+        dials: Some(6),
+        letters: "",
     },
     Case {
         what: "a run whose opening is refused",
@@ -158,10 +165,11 @@ const CASES: &[Case] = &[
             coming: &[],
             undrawn: false,
         },
+        serving: Serving::Agreed,
         unstarted: &[],
         outcome: "refused",
-        dials: 1,
-        parcels: "",
+        dials: Some(1),
+        letters: "",
     },
     Case {
         what: "a run whose first reply tells that the session has ended",
@@ -171,10 +179,11 @@ const CASES: &[Case] = &[
             coming: &[],
             undrawn: false,
         },
+        serving: Serving::Agreed,
         unstarted: &[],
         outcome: "refused",
-        dials: 1,
-        parcels: "",
+        dials: Some(1),
+        letters: "",
     },
     Case {
         what: "a run whose reply does not read",
@@ -184,42 +193,92 @@ const CASES: &[Case] = &[
             coming: &[],
             undrawn: false,
         },
+        serving: Serving::Agreed,
         unstarted: &[],
         outcome: "refused",
-        dials: 1,
-        parcels: "",
+        dials: Some(1),
+        letters: "",
     },
     Case {
         what: "a run whose link writer is not started",
         met: NOTHING,
+        serving: Serving::Agreed,
         unstarted: &[0],
         outcome: "no thread",
-        dials: 0,
-        parcels: "",
+        dials: Some(0),
+        letters: "",
     },
     Case {
         what: "a run whose resend worker is not started",
         met: NOTHING,
+        serving: Serving::Agreed,
         unstarted: &[1],
         outcome: "no thread",
-        dials: 0,
-        parcels: "",
+        dials: Some(0),
+        letters: "",
     },
     Case {
         what: "a run whose link reader is not started",
         met: NOTHING,
+        serving: Serving::Agreed,
         unstarted: &[2],
         outcome: "no thread",
-        dials: 0,
-        parcels: "",
+        dials: Some(0),
+        letters: "",
+    },
+    Case {
+        what: "a run whose deliverer is not started",
+        met: ONE,
+        serving: Serving::Agreed,
+        unstarted: &[3],
+        outcome: "no thread",
+        dials: None,
+        letters: "",
     },
     Case {
         what: "a run of which nobody is started",
         met: NOTHING,
-        unstarted: &[0, 1, 2],
+        serving: Serving::Agreed,
+        unstarted: &[0, 1, 2, 3],
         outcome: "no thread",
-        dials: 0,
-        parcels: "",
+        dials: Some(0),
+        letters: "",
+    },
+    Case {
+        what: "a run on which the sides did not agree",
+        met: ONE,
+        serving: Serving::Unagreed,
+        unstarted: &[],
+        outcome: "unagreed",
+        dials: Some(2),
+        letters: "ab",
+    },
+    Case {
+        what: "a run whose session refuses a parcel",
+        met: ONE,
+        serving: Serving::Refuses,
+        unstarted: &[],
+        outcome: "fault",
+        dials: None,
+        letters: "a",
+    },
+    Case {
+        what: "a run whose feeder gives pieces",
+        met: ONE,
+        serving: Serving::Feeds,
+        unstarted: &[],
+        outcome: "ended",
+        dials: Some(2),
+        letters: "ab",
+    },
+    Case {
+        what: "a run whose feeder fails",
+        met: QUIET,
+        serving: Serving::Fails,
+        unstarted: &[],
+        outcome: "feed fault",
+        dials: None,
+        letters: "",
     },
     Case {
         what: "a run whose base is not drawn",
@@ -229,47 +288,10 @@ const CASES: &[Case] = &[
             coming: &[],
             undrawn: true,
         },
+        serving: Serving::Agreed,
         unstarted: &[],
         outcome: "entropy fault",
-        dials: 0,
-        parcels: "",
+        dials: Some(0),
+        letters: "",
     },
 ];
-
-#[test]
-fn each_run_comes_to_its_outcome(rt: HostRuntime) -> Result<(), Fail> {
-    for case in CASES {
-        let so = holds(&rt, rt.alloc(), case)?;
-        assert!(rt; so, "{}", case.what);
-    }
-    Ok(())
-}
-
-#[test]
-fn openings_name_the_base_and_the_token(rt: HostRuntime) -> Result<(), Fail> {
-    let met = Met {
-        replies: &[ACCEPTED, ENDED],
-        missed: &[],
-        coming: &[],
-        undrawn: false,
-    };
-    let ran = run(&rt, rt.alloc(), &met, SteadySpawner, &OpenGate)?;
-    let first = "{\"ClientId\":\"00010203-0405-0607-0809-0a0b0c0d0e0f\",\
-        \"ClientVersion\":\"1.2.0.0\",\"MessageSchemaVersion\":\"1.0\",\
-        \"RequestId\":\"00010203-0405-0607-0809-0a0b0c0d0e0f\",\
-        \"TokenValue\":\"s-1.plugin.00000000000000010000000000000007\"}";
-    let second = "{\"ClientId\":\"00010203-0405-0607-0809-0a0b0c0d0e0f\",\
-        \"ClientVersion\":\"1.2.0.0\",\"MessageSchemaVersion\":\"1.0\",\
-        \"RequestId\":\"00010203-0405-0607-0809-0a0b0c0d0e0f\",\
-        \"TokenValue\":\"s-1.plugin.00000000000000020000000000000008\"}";
-    let dials = ran.link.dialer.dials();
-    assert!(rt;
-        is_opened_with(dials, 0, first),
-        "the first has the token of the setup"
-    );
-    assert!(rt;
-        is_opened_with(dials, 1, second),
-        "the second has that of the reply"
-    );
-    Ok(())
-}

@@ -2,11 +2,10 @@
 
 use super::coming::Coming;
 use super::runs::{ACCEPTED, ENDED, Met, run};
+use super::taking_session::TakingSession;
 use crate::Outcome;
-use chan_io::{NoThread, Spawner, Start};
 use session_run::Gate;
 use session_workers::{LINK_READER, LINK_WRITER};
-use std::alloc::Global;
 use std::hint::spin_loop;
 use std::sync::atomic::{AtomicBool, AtomicU64, Ordering};
 use std::test::Fail;
@@ -14,38 +13,6 @@ use std::thread::yield_now;
 
 /// How often a worker that is held looks whether it may go on.
 const LOOKS: u32 = 10_000;
-
-/// A spawner that starts a thread for each job.
-#[derive(Drop)]
-struct InThreads {
-    alloc: Global,
-    refused: u64,
-}
-
-impl Spawner for InThreads {
-    ghost faults = { λ s. s.refused };
-
-    ghost makes_threads = { λ _. Unit {0} };
-
-    fn choose(&mut self) -> Start {
-        Start::Thread(self.alloc)
-    }
-
-    fn refused(&mut self, _none: NoThread) {
-        self.refused = self.refused.saturating_add(1);
-    }
-
-    fn twin(&self) -> InThreads {
-        InThreads {
-            alloc: self.alloc,
-            refused: 0,
-        }
-    }
-
-    fn merge(&mut self, twin: InThreads) {
-        self.refused = self.refused.saturating_add(twin.refused);
-    }
-}
 
 /// A gate that holds the link reader's second turn until the link writer's third began, and the link
 /// writer's fourth until the link reader's third began.
@@ -108,7 +75,8 @@ fn workers_go_on_beside_each_other(rt: HostRuntime) -> Result<(), Fail> {
         undrawn: false,
     };
     let gate = Crossing::new();
-    let ran = run(&rt, alloc, &met, InThreads { alloc, refused: 0 }, &gate)?;
+    let session = TakingSession::new(alloc, None, None, true);
+    let ran = run(&rt, alloc, &met, session, &[], &gate)?;
     assert!(rt; matches!(ran.outcome, Outcome::Ended), "the run ends");
     assert!(rt;
         !gate.late.load(Ordering::SeqCst),

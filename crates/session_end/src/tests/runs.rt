@@ -1,19 +1,20 @@
 //! A run of a plugin over a link in memory.
 
-ghost use Rattle.std.specs.Prelude.{◌≡◌, IfOk};
+ghost use Rattle.std.specs.Prelude.{◌≡◌, IfOk, None, false};
 
 use super::coming::{Coming, got_of};
-use crate::{LinkRun, Setup, run_link};
+use super::in_threads::InThreads;
+use super::taking_session::TakingSession;
+use crate::{EndRun, Setup, run_end};
 use chan_io::{
-    Dial, FaultyDialer, FaultyEntropy, FaultyLinkIn, FaultyLinkOut, Link, Spawner, StillClock,
+    Dial, FaultyDialer, FaultyEntropy, FaultyLinkIn, FaultyLinkOut, Link, StillClock,
 };
 use chan_values::{Bytes, NoMemory, Side, Text};
 use session_register::{SessionName, Token, TokenValue};
-use session_run::{Gate, Parcel, Shelf, ShelfAnswer, ShelfCall};
+use session_run::{Gate, Parcel};
 use std::alloc::Global;
 use std::sync::Wait;
 use std::thread::Threads;
-use turn_lock::Turn;
 
 /// A reply that accepts, with the digits of the second token.
 pub(crate) const ACCEPTED: &str = "{\"Accepted\":true,\"Ended\":false,\
@@ -29,7 +30,14 @@ pub(crate) const ENDED: &str = "{\"Accepted\":false,\"Ended\":true,\"ResumeToken
 const BASE: [u8; 16] = [0, 1, 2, 3, 4, 5, 6, 7, 8, 9, 10, 11, 12, 13, 14, 15];
 
 /// A run over a link in memory.
-pub(crate) type MemoryRun<W> = LinkRun<FaultyDialer, FaultyLinkIn, FaultyLinkOut, FaultyEntropy, W>;
+pub(crate) type MemoryRun = EndRun<
+    FaultyDialer,
+    FaultyLinkIn,
+    FaultyLinkOut,
+    TakingSession,
+    FaultyEntropy,
+    InThreads,
+>;
 
 /// What a run meets.
 #[derive(Clone, Copy)]
@@ -96,35 +104,37 @@ fn entropy(alloc: Global, met: &Met) -> Result<FaultyEntropy, NoMemory> {
     Ok(FaultyEntropy::new(Vec::from_slice(alloc, &[BASE])?, failing))
 }
 
-/// The run.
-pub(crate) fn run<R: Threads + Wait + Sync, G: Gate, W: Spawner>(
+/// The run of this session, whose starts with these numbers fail.
+pub(crate) fn run<R: Threads + Wait + Sync, G: Gate>(
     rt: &R,
     alloc: Global,
     met: &Met,
-    spawner: W,
+    session: TakingSession,
+    unstarted: &'static [u64],
     gate: &G,
-) -> Result<MemoryRun<W>, NoMemory> {
+) -> Result<MemoryRun, NoMemory>
+    requires unbegun { session.begun ≡ false }
+    requires none_out { session.out ≡ None }
+{
     let setup = setup(alloc)?;
     let link = link(alloc, met)?;
     let entropy = entropy(alloc, met)?;
-    Ok(run_link(rt, alloc, setup, link, &StillClock, entropy, spawner, gate))
+    let spawner = InThreads::new(alloc, unstarted);
+    Ok(run_end(rt, alloc, setup, link, session, &StillClock, entropy, spawner, gate))
 }
 
-/// All parcels that nobody took, in letters: of an item its bytes, and a point behind the last.
-pub(crate) fn letters(alloc: Global, left: Option<Shelf>) -> Result<String, NoMemory> {
+/// What a session took, in letters: of an item its bytes, and a point behind the last.
+pub(crate) fn letters(alloc: Global, session: &TakingSession) -> Result<String, NoMemory> {
     let mut letters = String::new(alloc);
-    let Some(mut shelf) = left else {
-        return Ok(letters);
-    };
-    for _ in 0..20u8 {
-        match shelf.act(ShelfCall::First) {
-            ShelfAnswer::First(Some(Parcel::Arrived(item))) => {
+    for parcel in session.taken.as_slice() {
+        match parcel {
+            Parcel::Arrived(item) => {
                 for byte in item.payload.as_slice() {
                     letters.push(char::from(*byte))?;
                 }
             }
-            ShelfAnswer::First(Some(Parcel::Finished)) => letters.push('.')?,
-            _ => {}
+            Parcel::Finished => letters.push('.')?,
+            Parcel::Over => {}
         }
     }
     Ok(letters)

@@ -1,220 +1,77 @@
-use Rattle.std.proofs.Common.{◌∙◌, ap, subst, sym}
-use Rattle.session_end.specs.Crews.{CrewRan, IsCrewOf}
-use Rattle.session_end.specs.Seats.{IsJoinOfFour, IsJoinOfThree}
-use Rattle.turn_lock.specs.Histories.{entries_of}
+use Rattle.std.proofs.Common.{◌∙◌, ap, sym, subst}
 use Rattle.turn_lock.specs.Receipts.{history_of}
-use Rattle.turn_lock.specs.Seats.{IsSeatOf}
-use Rattle.session_end.proofs.RunLemmas.{run_of}
-use Rattle.session_end.proofs.RunSeatLemmas.{IsCrewOf-split, IsLinkRun-same, closed_whole, left_main, left_reader, left_resender, left_shelf_main, left_shelf_reader, left_shelf_writer, left_writer, shelf_whole}
+use Rattle.session_crews.specs.Seats.{ShelfSeat}
+use Rattle.session_end.specs.declared.seats.EndSeats.{EndSeats}
+use Rattle.session_end.specs.declared.seats.ShelfSeats.{ShelfSeats}
+use Rattle.session_end.specs.Closings.{AreEndSeats, AreShelfSeats, IsClosing}
+use Rattle.session_end.specs.Crews.{CrewRan}
+use Rattle.session_end.specs.Outcomes.{outcome_of}
+use Rattle.session_end.specs.Settling.{seats_after, shelf_seats_after}
+use Rattle.session_end.proofs.EndRunLemmas.{IsEndRun-of, IsEndRun-same}
+use Rattle.session_end.proofs.RunSeatLemmas.{AreEndSeats-of, AreShelfSeats-of}
 use Rattle.session_end.proofs.run.run_plan.Goals as goal
 
-pub split-seats-requires : goal.split-seats-requires
-split-seats-requires g c = c.requires.2.end.of_lock
-
-pub split-main-requires : goal.split-main-requires
-split-main-requires g c = c.requires.2.shelf.of_lock
-
-pub in_threads-after-requires-after_bounds : goal.in_threads-after-requires-after_bounds
-in_threads-after-requires-after_bounds g c κs within =
-    subst (λ crew. IsCrewOf c.args.plan.ends c.args.plan.shelf crew) (sym c.new-crew.ensures)
-    (IsCrewOf-split _ _ c.args.plan c.args.link c.split-seats.result c.split-main.result
-    c.requires.2 c.split-seats.ensures c.split-main.ensures)
-
-pub join-main-requires-clause-main : goal.join-main-requires-clause-main
-join-main-requires-clause-main g c =
+pub finish-requires-clause-ends : goal.finish-requires-clause-ends
+finish-requires-clause-ends g c =
     let ran = subst
-    (λ crew. CrewRan g.D.Dialer.dials g.D.Dialer.faults g.N.LinkIn.arrivals g.N.LinkIn.faults
-    g.U.LinkOut.departures g.U.LinkOut.faults crew c.in_threads-after.result
-    (g.W.Spawner.faults c.args.spawner)
-    (g.W.Spawner.faults c.in_threads-after.result.rest.rest.spawner))
-    c.new-crew.ensures c.in_threads-after.ensures in
-    subst (λ s. IsSeatOf c.args.plan.ends s.main) (sym c.settle-settled.ensures.seats)
-    (left_main _ _ c.args.plan c.args.link c.split-seats.result c.split-main.result c.requires.2
-    c.split-seats.ensures c.split-main.ensures _ _ _ _ _ _
-    c.in_threads-after.result _ _ ran)
+        (λ crew. CrewRan g.D.Dialer.dials g.D.Dialer.faults g.N.LinkIn.arrivals
+        g.N.LinkIn.faults g.U.LinkOut.departures g.U.LinkOut.faults g.S.Session.stands
+        g.S.Session.out g.S.Session.begun g.S.Session.refused crew c.in_threads-joined.result
+        (g.W.Spawner.faults c.args.spawner)
+        (g.W.Spawner.faults c.in_threads-joined.result.spawner))
+        c.new-crew.ensures.crew c.in_threads-joined.ensures in
+    subst (λ (s : EndSeats). AreEndSeats c.args.plan.shared.ends s)
+    (sym c.settle.ensures.seats)
+    (AreEndSeats-of _ _ _ _ _ _ _ _ _ _ c.requires.plan.0 c.requires.plan.1 c.args.plan
+    c.args.link c.args.session c.split-seats.result c.split-shelf_seats.result
+    c.in_threads-joined.result _ _ c.requires.plan.2 c.split-seats.ensures
+    c.split-shelf_seats.ensures ran)
 
-pub join-main-requires-clause-reader : goal.join-main-requires-clause-reader
-join-main-requires-clause-reader g c =
+pub finish-requires-clause-shelf : goal.finish-requires-clause-shelf
+finish-requires-clause-shelf g c =
     let ran = subst
-    (λ crew. CrewRan g.D.Dialer.dials g.D.Dialer.faults g.N.LinkIn.arrivals g.N.LinkIn.faults
-    g.U.LinkOut.departures g.U.LinkOut.faults crew c.in_threads-after.result
-    (g.W.Spawner.faults c.args.spawner)
-    (g.W.Spawner.faults c.in_threads-after.result.rest.rest.spawner))
-    c.new-crew.ensures c.in_threads-after.ensures in
-    subst (λ s. IsSeatOf c.args.plan.ends s.reader) (sym c.settle-settled.ensures.seats)
-    (left_reader _ _ c.args.plan c.args.link c.split-seats.result c.split-main.result c.requires.2
-    c.split-seats.ensures c.split-main.ensures _ _ _ _ _ _
-    c.in_threads-after.result _ _ ran)
+        (λ crew. CrewRan g.D.Dialer.dials g.D.Dialer.faults g.N.LinkIn.arrivals
+        g.N.LinkIn.faults g.U.LinkOut.departures g.U.LinkOut.faults g.S.Session.stands
+        g.S.Session.out g.S.Session.begun g.S.Session.refused crew c.in_threads-joined.result
+        (g.W.Spawner.faults c.args.spawner)
+        (g.W.Spawner.faults c.in_threads-joined.result.spawner))
+        c.new-crew.ensures.crew c.in_threads-joined.ensures in
+    subst (λ (s : ShelfSeats). AreShelfSeats c.args.plan.shared.shelf s)
+    (sym c.settle.ensures.shelf_seats)
+    (subst
+    (λ (m : ShelfSeat).
+    AreShelfSeats c.args.plan.shared.shelf (shelf_seats_after c.in_threads-joined.result m))
+    (sym c.new-crew.ensures.main)
+    (AreShelfSeats-of _ _ _ _ _ _ _ _ _ _ c.requires.plan.0 c.requires.plan.1 c.args.plan
+    c.args.link c.args.session c.split-seats.result c.split-shelf_seats.result
+    c.in_threads-joined.result _ _ c.requires.plan.2 c.split-seats.ensures
+    c.split-shelf_seats.ensures ran))
 
-pub join-main-requires-clause-writer : goal.join-main-requires-clause-writer
-join-main-requires-clause-writer g c =
+pub returns : goal.returns
+returns g c setup base is =
+    let joined = c.in_threads-joined.result in
+    let h = history_of c.finish.result.ends in
+    let k = history_of c.finish.result.shelf in
+    let settle = c.settle.ensures in
     let ran = subst
-    (λ crew. CrewRan g.D.Dialer.dials g.D.Dialer.faults g.N.LinkIn.arrivals g.N.LinkIn.faults
-    g.U.LinkOut.departures g.U.LinkOut.faults crew c.in_threads-after.result
-    (g.W.Spawner.faults c.args.spawner)
-    (g.W.Spawner.faults c.in_threads-after.result.rest.rest.spawner))
-    c.new-crew.ensures c.in_threads-after.ensures in
-    subst (λ s. IsSeatOf c.args.plan.ends s.writer) (sym c.settle-settled.ensures.seats)
-    (left_writer _ _ c.args.plan c.args.link c.split-seats.result c.split-main.result c.requires.2
-    c.split-seats.ensures c.split-main.ensures _ _ _ _ _ _
-    c.in_threads-after.result _ _ ran)
-
-pub join-main-requires-clause-resender : goal.join-main-requires-clause-resender
-join-main-requires-clause-resender g c =
-    let ran = subst
-    (λ crew. CrewRan g.D.Dialer.dials g.D.Dialer.faults g.N.LinkIn.arrivals g.N.LinkIn.faults
-    g.U.LinkOut.departures g.U.LinkOut.faults crew c.in_threads-after.result
-    (g.W.Spawner.faults c.args.spawner)
-    (g.W.Spawner.faults c.in_threads-after.result.rest.rest.spawner))
-    c.new-crew.ensures c.in_threads-after.ensures in
-    subst (λ s. IsSeatOf c.args.plan.ends s.resender) (sym c.settle-settled.ensures.seats)
-    (left_resender _ _ c.args.plan c.args.link c.split-seats.result c.split-main.result c.requires.2
-    c.split-seats.ensures c.split-main.ensures _ _ _ _ _ _
-    c.in_threads-after.result _ _ ran)
-
-pub join-shelf_main-requires-clause-main : goal.join-shelf_main-requires-clause-main
-join-shelf_main-requires-clause-main g c =
-    let ran = subst
-    (λ crew. CrewRan g.D.Dialer.dials g.D.Dialer.faults g.N.LinkIn.arrivals g.N.LinkIn.faults
-    g.U.LinkOut.departures g.U.LinkOut.faults crew c.in_threads-after.result
-    (g.W.Spawner.faults c.args.spawner)
-    (g.W.Spawner.faults c.in_threads-after.result.rest.rest.spawner))
-    c.new-crew.ensures c.in_threads-after.ensures in
-    subst (λ s. IsSeatOf c.args.plan.shelf s.main) (sym c.settle-settled.ensures.shelf_seats)
-    (left_shelf_main _ _ c.args.plan c.args.link c.split-seats.result c.split-main.result c.requires.2
-    c.split-seats.ensures c.split-main.ensures _ _ _ _ _ _
-    c.in_threads-after.result _ _ ran)
-
-pub join-shelf_main-requires-clause-reader : goal.join-shelf_main-requires-clause-reader
-join-shelf_main-requires-clause-reader g c =
-    let ran = subst
-    (λ crew. CrewRan g.D.Dialer.dials g.D.Dialer.faults g.N.LinkIn.arrivals g.N.LinkIn.faults
-    g.U.LinkOut.departures g.U.LinkOut.faults crew c.in_threads-after.result
-    (g.W.Spawner.faults c.args.spawner)
-    (g.W.Spawner.faults c.in_threads-after.result.rest.rest.spawner))
-    c.new-crew.ensures c.in_threads-after.ensures in
-    subst (λ s. IsSeatOf c.args.plan.shelf s.reader) (sym c.settle-settled.ensures.shelf_seats)
-    (left_shelf_reader _ _ c.args.plan c.args.link c.split-seats.result c.split-main.result c.requires.2
-    c.split-seats.ensures c.split-main.ensures _ _ _ _ _ _
-    c.in_threads-after.result _ _ ran)
-
-pub join-shelf_main-requires-clause-writer : goal.join-shelf_main-requires-clause-writer
-join-shelf_main-requires-clause-writer g c =
-    let ran = subst
-    (λ crew. CrewRan g.D.Dialer.dials g.D.Dialer.faults g.N.LinkIn.arrivals g.N.LinkIn.faults
-    g.U.LinkOut.departures g.U.LinkOut.faults crew c.in_threads-after.result
-    (g.W.Spawner.faults c.args.spawner)
-    (g.W.Spawner.faults c.in_threads-after.result.rest.rest.spawner))
-    c.new-crew.ensures c.in_threads-after.ensures in
-    subst (λ s. IsSeatOf c.args.plan.shelf s.writer) (sym c.settle-settled.ensures.shelf_seats)
-    (left_shelf_writer _ _ c.args.plan c.args.link c.split-seats.result c.split-main.result c.requires.2
-    c.split-seats.ensures c.split-main.ensures _ _ _ _ _ _
-    c.in_threads-after.result _ _ ran)
-
-pub close-requires : goal.close-requires
-close-requires g c =
-    let ran = subst
-    (λ crew. CrewRan g.D.Dialer.dials g.D.Dialer.faults g.N.LinkIn.arrivals g.N.LinkIn.faults
-    g.U.LinkOut.departures g.U.LinkOut.faults crew c.in_threads-after.result
-    (g.W.Spawner.faults c.args.spawner)
-    (g.W.Spawner.faults c.in_threads-after.result.rest.rest.spawner))
-    c.new-crew.ensures c.in_threads-after.ensures in
-    let joined = subst
-    (λ s. IsJoinOfFour s.main s.reader s.writer s.resender c.join-main.result)
-    c.settle-settled.ensures.seats c.join-main.ensures in
-    joined.same_lock
-    ∙ left_main _ _ c.args.plan c.args.link c.split-seats.result c.split-main.result c.requires.2
-    c.split-seats.ensures c.split-main.ensures _ _ _ _ _ _
-    c.in_threads-after.result _ _ ran
-
-pub close_whole-held-requires-clause-lock : goal.close_whole-held-requires-clause-lock
-close_whole-held-requires-clause-lock g c =
-    let ran = subst
-    (λ crew. CrewRan g.D.Dialer.dials g.D.Dialer.faults g.N.LinkIn.arrivals g.N.LinkIn.faults
-    g.U.LinkOut.departures g.U.LinkOut.faults crew c.in_threads-after.result
-    (g.W.Spawner.faults c.args.spawner)
-    (g.W.Spawner.faults c.in_threads-after.result.rest.rest.spawner))
-    c.new-crew.ensures c.in_threads-after.ensures in
-    let joined = subst
-    (λ s. IsJoinOfFour s.main s.reader s.writer s.resender c.join-main.result)
-    c.settle-settled.ensures.seats c.join-main.ensures in
-    c.close.ensures.calls.same_seat.same_lock
-    ∙ joined.same_lock
-    ∙ left_main _ _ c.args.plan c.args.link c.split-seats.result c.split-main.result c.requires.2
-    c.split-seats.ensures c.split-main.ensures _ _ _ _ _ _
-    c.in_threads-after.result _ _ ran
-
-pub close_whole-held-requires-clause-whole : goal.close_whole-held-requires-clause-whole
-close_whole-held-requires-clause-whole g c =
-    let ran = subst
-    (λ crew. CrewRan g.D.Dialer.dials g.D.Dialer.faults g.N.LinkIn.arrivals g.N.LinkIn.faults
-    g.U.LinkOut.departures g.U.LinkOut.faults crew c.in_threads-after.result
-    (g.W.Spawner.faults c.args.spawner)
-    (g.W.Spawner.faults c.in_threads-after.result.rest.rest.spawner))
-    c.new-crew.ensures c.in_threads-after.ensures in
-    let joined = subst
-    (λ s. IsJoinOfFour s.main s.reader s.writer s.resender c.join-main.result)
-    c.settle-settled.ensures.seats c.join-main.ensures in
-    closed_whole _ _ c.args.plan c.args.link c.split-seats.result c.split-main.result c.requires.2
-    c.split-seats.ensures c.split-main.ensures _ _ _ _ _ _
-    c.in_threads-after.result _ _ ran c.join-main.result c.close.new.seat joined
-    c.close.ensures.calls
-
-pub close_whole-left-requires-clause-lock : goal.close_whole-left-requires-clause-lock
-close_whole-left-requires-clause-lock g c =
-    let ran = subst
-    (λ crew. CrewRan g.D.Dialer.dials g.D.Dialer.faults g.N.LinkIn.arrivals g.N.LinkIn.faults
-    g.U.LinkOut.departures g.U.LinkOut.faults crew c.in_threads-after.result
-    (g.W.Spawner.faults c.args.spawner)
-    (g.W.Spawner.faults c.in_threads-after.result.rest.rest.spawner))
-    c.new-crew.ensures c.in_threads-after.ensures in
-    let shelf_joined = subst
-    (λ s. IsJoinOfThree s.main s.reader s.writer c.join-shelf_main.result)
-    c.settle-settled.ensures.shelf_seats c.join-shelf_main.ensures in
-    shelf_joined.same_lock
-    ∙ left_shelf_main _ _ c.args.plan c.args.link c.split-seats.result c.split-main.result c.requires.2
-    c.split-seats.ensures c.split-main.ensures _ _ _ _ _ _
-    c.in_threads-after.result _ _ ran
-
-pub close_whole-left-requires-clause-whole : goal.close_whole-left-requires-clause-whole
-close_whole-left-requires-clause-whole g c =
-    let ran = subst
-    (λ crew. CrewRan g.D.Dialer.dials g.D.Dialer.faults g.N.LinkIn.arrivals g.N.LinkIn.faults
-    g.U.LinkOut.departures g.U.LinkOut.faults crew c.in_threads-after.result
-    (g.W.Spawner.faults c.args.spawner)
-    (g.W.Spawner.faults c.in_threads-after.result.rest.rest.spawner))
-    c.new-crew.ensures c.in_threads-after.ensures in
-    let shelf_joined = subst
-    (λ s. IsJoinOfThree s.main s.reader s.writer c.join-shelf_main.result)
-    c.settle-settled.ensures.shelf_seats c.join-shelf_main.ensures in
-    shelf_whole _ _ c.args.plan c.args.link c.split-seats.result c.split-main.result c.requires.2
-    c.split-seats.ensures c.split-main.ensures _ _ _ _ _ _
-    c.in_threads-after.result _ _ ran c.join-shelf_main.result shelf_joined
-
-pub returns-clause-run : goal.returns-clause-run
-returns-clause-run g c setup base is =
-    let ran = subst
-    (λ crew. CrewRan g.D.Dialer.dials g.D.Dialer.faults g.N.LinkIn.arrivals g.N.LinkIn.faults
-    g.U.LinkOut.departures g.U.LinkOut.faults crew c.in_threads-after.result
-    (g.W.Spawner.faults c.args.spawner)
-    (g.W.Spawner.faults c.in_threads-after.result.rest.rest.spawner))
-    c.new-crew.ensures c.in_threads-after.ensures in
-    let joined = subst
-    (λ s. IsJoinOfFour s.main s.reader s.writer s.resender c.join-main.result)
-    c.settle-settled.ensures.seats c.join-main.ensures in
-    let shelf_joined = subst
-    (λ s. IsJoinOfThree s.main s.reader s.writer c.join-shelf_main.result)
-    c.settle-settled.ensures.shelf_seats c.join-shelf_main.ensures in
-    let held = c.close_whole-held.ensures in
-    let left = c.close_whole-left.ensures in
-    IsLinkRun-same _ _ _ _ _ _ _ _ _ _ _ _ _ _ _ _ _ _ c.settle-settled.ensures.link
-    (ap (λ w. g.W.Spawner.faults w) c.settle-settled.ensures.spawner)
-    c.settle-settled.ensures.outcome
-    (run_of _ _ _ _ _ _ setup base c.args.plan c.args.link c.split-seats.result
-    c.split-main.result c.in_threads-after.result _ _ is c.split-seats.ensures
-    c.split-main.ensures ran c.join-main.result c.close.new.seat c.join-shelf_main.result
-    (history_of c.close_whole-held.result.1) (history_of c.close_whole-left.result.1) joined
-    shelf_joined c.close.ensures.calls c.close.ensures.last held.legal held.whole.seen_all
-    (λ q. held.whole.own_all q ∙ ap (entries_of q) held.receipt.same_mine)
-    left.legal
-    (λ q. left.whole.own_all q ∙ ap (entries_of q) left.receipt.same_mine))
+        (λ crew. CrewRan g.D.Dialer.dials g.D.Dialer.faults g.N.LinkIn.arrivals
+        g.N.LinkIn.faults g.U.LinkOut.departures g.U.LinkOut.faults g.S.Session.stands
+        g.S.Session.out g.S.Session.begun g.S.Session.refused crew joined
+        (g.W.Spawner.faults c.args.spawner) (g.W.Spawner.faults joined.spawner))
+        c.new-crew.ensures.crew c.in_threads-joined.ensures in
+    let closing =
+        subst (λ (s : EndSeats). IsClosing s (shelf_seats_after joined
+        c.split-shelf_seats.result.main) h k)
+        settle.seats
+        (subst (λ (s : ShelfSeats). IsClosing c.settle.result.seats s h k)
+        (settle.shelf_seats
+        ∙ ap (λ (m : ShelfSeat). shelf_seats_after joined m) c.new-crew.ensures.main)
+        c.finish.ensures.closing) in
+    IsEndRun-same _ _ _ _ _ _ _ _ _ _ _ _ _ _ _ _ _ _ _ _ _ _ _ _ _
+    (c.finish.ensures.link ∙ settle.link)
+    (c.finish.ensures.session ∙ settle.session)
+    (ap (λ w. g.W.Spawner.faults w) (c.finish.ensures.spawner ∙ settle.spawner))
+    (c.finish.ensures.outcome ∙ ap outcome_of settle.ends)
+    (IsEndRun-of _ _ _ _ _ _ _ _ _ _ setup base c.args.plan c.args.link c.args.session
+    c.split-seats.result c.split-shelf_seats.result joined _ _ is c.split-seats.ensures
+    c.split-shelf_seats.ensures ran g.S.Session.agreed h k closing)

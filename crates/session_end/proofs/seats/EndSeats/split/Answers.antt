@@ -1,6 +1,6 @@
 use Rattle.std.proofs.Common.{◌∙◌, ap, arith}
 use Rattle.turn_lock.specs.Views.{half_of}
-use Rattle.session_end.proofs.ShareLemmas.{whole_four}
+use Rattle.session_end.proofs.ShareLemmas.{whole_five}
 use Rattle.session_end.proofs.seats.EndSeats.split.Goals as goal
 
 pub returns : goal.returns
@@ -8,11 +8,14 @@ returns c =
     let one = c.in-Ok.ensures.given in
     let two = c.in-Ok-split.ensures.given in
     let three = c.in-Ok-split-2.ensures.given in
+    let four = c.in-Ok-split-3.ensures.given in
     let kept = c.split.ensures.kept in
     let first = c.split-2.ensures.kept in
     let second = c.split-3.ensures.kept in
+    let third = c.split-4.ensures.kept in
     let half = first.half_share ∙ ap half_of one.half_share in
     let quarter = two.half_share ∙ ap half_of one.half_share in
+    let eighth = three.half_share ∙ ap half_of quarter in
     record {
       kept = record {
         same_lock = kept.same_lock;
@@ -31,11 +34,16 @@ returns c =
         none_made = second.same_mine ∙ two.none_made;
       };
       third_above = record {
-        same_lock = three.same_lock ∙ two.same_lock ∙ one.same_lock;
-        later = omega (arith, second.same_number, three.later_number);
-        none_made = three.none_made;
+        same_lock = third.same_lock ∙ three.same_lock ∙ two.same_lock ∙ one.same_lock;
+        later = omega (arith, second.same_number, third.same_number, three.later_number);
+        none_made = third.same_mine ∙ three.none_made;
+      };
+      fourth_above = record {
+        same_lock = four.same_lock ∙ three.same_lock ∙ two.same_lock ∙ one.same_lock;
+        later = omega (arith, third.same_number, four.later_number);
+        none_made = four.none_made;
       };
       whole =
-          whole_four _ _ _ _ _ kept.half_share half (second.half_share ∙ ap half_of quarter)
-          (three.half_share ∙ ap half_of quarter);
+          whole_five _ _ _ _ _ _ kept.half_share half (second.half_share ∙ ap half_of quarter)
+          (third.half_share ∙ ap half_of eighth) (four.half_share ∙ ap half_of eighth);
     }
