@@ -1,7 +1,7 @@
 -- A run's outcome has its cause.
-use Rattle.std.proofs.Common.{◌≡◌, ◌⊎◌, inl, inr, ℕ, Bool, true, false, Option, Some, None, List, [], ◌∷◌, ◌++◌, map, refl, sym, ap, ◌∙◌, subst}
+use Rattle.std.proofs.Common.{◌≡◌, ◌⊎◌, inl, inr, ℕ, Bool, true, false, Option, Some, None, List, [], ◌∷◌, ◌++◌, refl, sym, ap, ◌∙◌}
 use Rattle.std.specs.Prelude.{◌&&◌, ◌||◌, not, is_some, if◌then◌else◌}
-use Rattle.std.specs.List.{All, flat_map, fold, list_any}
+use Rattle.std.specs.List.{fold}
 use Rattle.chan_io.specs.Faults.{Rises}
 use Rattle.chan_values.specs.declared.side.Side.{Side}
 use Rattle.channel_core.specs.Numbers.{or_else}
@@ -15,22 +15,20 @@ use Rattle.session_run.specs.declared.shelf_call.ShelfAnswer.{ShelfAnswer}
 use Rattle.session_run.specs.declared.shelf_call.ShelfCall.{ShelfCall}
 use Rattle.session_workers.specs.declared.link_setting.LinkSetting.{LinkSetting}
 use Rattle.session_workers.specs.declared.read_state.ReadEnd.{ReadEnd}
-use Rattle.session_workers.specs.declared.worker_end.WorkerEnd.{WorkerEnd}
 use Rattle.session_workers.specs.ReaderLaws.{AreSteps}
 use Rattle.session_workers.specs.WriterRuns.{MayTurn, at_first, progress}
 use Rattle.session_workers.proofs.ReaderLawLemmas.{lost_by_six}
 use Rattle.session_feeds.specs.declared.session.SessionFault.{SessionFault}
-use Rattle.session_crews.specs.Crews.{has_stopped}
-use Rattle.session_crews.specs.FeedTurns.{WasStarted, refusals_in}
+use Rattle.session_crews.specs.FeedTurns.{refusals_in}
 use Rattle.session_delivery.specs.Delivering.{delivered_by}
 use Rattle.session_delivery.specs.Deliveries.{IsDelivererPart, refusals_of}
 use Rattle.session_delivery.specs.declared.deliver_end.DeliverEnd.{DeliverEnd}
 use Rattle.session_end.specs.declared.ends.Ends.{Ends}
 use Rattle.session_end.specs.declared.outcome.Outcome.{Outcome}
-use Rattle.session_end.specs.Causes.{GaveUp, HasCause, IsQuietEnd, is_giving_up}
+use Rattle.session_end.specs.Causes.{GaveUp, HasCause, IsQuietEnd}
 use Rattle.session_end.specs.Deeds.{Deeds, end_parts, ends_of, outcome_by, read_end, shelf_parts}
 use Rattle.session_end.specs.Leftovers.{IsLeft, end_with, left_by}
-use Rattle.session_end.specs.Outcomes.{all_started, is_deliverer_starved, is_reader_starved, is_starved, is_writer_starved, outcome_given, outcome_left, outcome_of, outcome_read, outcome_served}
+use Rattle.session_end.specs.Outcomes.{all_started, is_deliverer_starved, is_reader_starved, is_starved, is_writer_starved, outcome_given, outcome_left, outcome_read, outcome_served}
 use Rattle.session_end.specs.Parts.{IsMadeOf}
 use Rattle.session_end.specs.Ran.{IsEndedBy}
 use Rattle.session_end.specs.Refusals.{refusals_by}
@@ -61,8 +59,6 @@ module _ (setting : LinkSetting) (side : Side) (token : List ℕ) (d : Deeds) (w
     (resend_started : UnlessStarted (resent_by d.ticks).over d.ticks spawned new_spawned)
     (serve_started : UnlessStarted d.started d.delivery.steps spawned new_spawned)
     (fits : IsDelivererPart d.delivery)
-    (idle : d.started ≡ false → d.delivery.ended ≡ None)
-    (ran : has_stopped (refusals_by d.delivery) ≡ false → All WasStarted d.delivery.feeders)
     (thread : (refusals_by d.delivery).no_thread ≡ true → Rises spawned new_spawned)
     (is_left : IsLeft d.delivery.ended d.left)
     (refusal_is : (delivered_by d.delivery.steps).begun ≡ true
@@ -116,38 +112,38 @@ module _ (setting : LinkSetting) (side : Side) (token : List ℕ) (d : Deeds) (w
     quiet : IsQuietEnd h k
     quiet =
         let f =
-            none_or (is_writer_starved d.written)
-            (is_reader_starved (read_end token d)
-            || ((refusals_by d.delivery).no_memory || is_deliverer_starved d.started delivered))
-            fed in
+        none_or (is_writer_starved d.written)
+        (is_reader_starved (read_end token d)
+        || ((refusals_by d.delivery).no_memory || is_deliverer_starved d.started delivered))
+        fed in
         let g =
-            none_or (is_reader_starved (read_end token d))
-            ((refusals_by d.delivery).no_memory || is_deliverer_starved d.started delivered)
-            f.1 in
+        none_or (is_reader_starved (read_end token d))
+        ((refusals_by d.delivery).no_memory || is_deliverer_starved d.started delivered)
+        f.1 in
         let m =
-            none_or (refusals_by d.delivery).no_memory
-            (is_deliverer_starved d.started delivered) g.1 in
+        none_or (refusals_by d.delivery).no_memory
+        (is_deliverer_starved d.started delivered) g.1 in
         let both =
-            and_true (is_some d.written && (resent_by d.ticks).over)
-            (is_some (read_end token d) && d.started) all in
+        and_true (is_some d.written && (resent_by d.ticks).over)
+        (is_some (read_end token d) && d.started) all in
         let links = and_true (is_some d.written) (resent_by d.ticks).over both.0 in
         let others = and_true (is_some (read_end token d)) d.started both.1 in
         let memory =
-            none_or (refusals_of d.delivery.ended).no_memory
-            (refusals_in d.delivery.feeders).no_memory m.0 in
+        none_or (refusals_of d.delivery.ended).no_memory
+        (refusals_in d.delivery.feeders).no_memory m.0 in
         let failed =
-            none_or (refusals_of d.delivery.ended).failed
-            (refusals_in d.delivery.feeders).failed none_lost in
+        none_or (refusals_of d.delivery.ended).failed
+        (refusals_in d.delivery.feeders).failed none_lost in
         let thread_none =
-            none_or (refusals_of d.delivery.ended).no_thread
-            (refusals_in d.delivery.feeders).no_thread threads in
+        none_or (refusals_of d.delivery.ended).no_thread
+        (refusals_in d.delivery.feeders).no_thread threads in
         let written = writer_closed d.written f.0 links.0 in
         let read = reader_closed (read_end token d) reads g.0 others.0 in
         let closed =
-            deliverer_closed d.started (left_by d.left).refused d.delivery.ended others.1 serves
-            m.1 thread_none.0 in
+        deliverer_closed d.started (left_by d.left).refused d.delivery.ended others.1 serves
+        m.1 thread_none.0 in
         let unrefused : AreUnrefused d.delivery.feeders =
-            AreUnrefused-of d.delivery.feeders memory.1 failed.1 thread_none.1 in
+        AreUnrefused-of d.delivery.feeders memory.1 failed.1 thread_none.1 in
         record {
           heard =
               ended_is_heard token d w h last.0 last.1 legal made written read links.1 closed
@@ -183,7 +179,7 @@ module _ (setting : LinkSetting) (side : Side) (token : List ℕ) (d : Deeds) (w
           rose (or_cases (refusals_by d.delivery).no_thread (not (all_started its_ends)) is)
       threads_by false none_lost is =
           let none =
-              none_or (refusals_by d.delivery).no_thread (not (all_started its_ends)) is in
+          none_or (refusals_by d.delivery).no_thread (not (all_started its_ends)) is in
           agreed_by fed reads none_given serves none_lost none.0
           (not_false_true (all_started its_ends) none.1) agreed refl
 

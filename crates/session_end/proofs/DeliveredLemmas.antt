@@ -4,9 +4,9 @@ use Rattle.std.specs.Prelude.{if◌then◌else◌}
 use Rattle.std.specs.List.{fold}
 use Rattle.turn_lock.specs.Runs.{AllFit}
 use Rattle.session_feeds.specs.declared.session.SessionFault.{SessionFault}
-use Rattle.session_delivery.specs.Delivering.{DeliverState, DeliverStep, Led, MayDeliver, Treated, asks, asks_in_vain, at_first_delivery, begins, deliver_after, delivered_by, end_of_fault, end_of_led, finds_none, refusal_of_led, refuses, takes, treats}
+use Rattle.session_delivery.specs.Delivering.{DeliverState, DeliverStep, Led, MayDeliver, asks, asks_in_vain, at_first_delivery, begins, deliver_after, delivered_by, end_of_fault, end_of_led, finds_none, refusal_of_led, refuses, takes, treats}
 use Rattle.session_delivery.specs.Deliveries.{DelivererPart, IsDelivererPart}
-use Rattle.session_delivery.specs.Starts.{Starts, all, end_of_refusal, end_of_starts, fails, lacks}
+use Rattle.session_delivery.specs.Starts.{Starts, all, end_of_starts, fails, lacks}
 use Rattle.session_delivery.specs.declared.deliver_end.DeliverEnd.{DeliverEnd}
 
 -- a refusal with which a deliverer ends so

@@ -86,9 +86,10 @@ module _ {S C W : Type 0} (stands : S → Account C → Type 0) (out : S → Lis
       → DelivererRan stands out begun refused old new before after
   DelivererRan-not started none rose last =
       DelivererRan-by
-      (subst (λ (b : Bool). UnlessStarted b is.part.steps before after) (sym started)
-      ((is.fits.alone (is.ended ∙ none)).0,
-      Rises-wide before before mid after (omega arith) rose last))
+      (subst (λ (b : Bool). UnlessStarted b is.part.steps before after) (sym started) (
+        (is.fits.alone (is.ended ∙ none)).0,
+        Rises-wide before before mid after (omega arith) rose last,
+      ))
       (λ (not : new.started ≡ false). ended_is ∙ none)
 
 module _ {S C W : Type 0} (stands : S → Account C → Type 0) (out : S → List ℕ)

@@ -1,5 +1,5 @@
 -- What the deliverer and the workers of feeders have of calls of a kind.
-use Rattle.std.proofs.Common.{◌≡◌, ℕ, Bool, true, false, Option, Some, None, List, [], ◌∷◌, ◌++◌, map, refl, sym, ap, ◌∙◌}
+use Rattle.std.proofs.Common.{◌≡◌, ℕ, Bool, false, Option, Some, None, List, [], ◌∷◌, ◌++◌, map, refl}
 use Rattle.std.specs.List.{flat_map, list_any}
 use Rattle.chan_values.specs.declared.item.Item.{Item}
 use Rattle.channel_core.specs.declared.answer.Look.{Look}
@@ -11,7 +11,7 @@ use Rattle.session_feeds.specs.Puts.{Trial, full_call, put_call, trial_calls}
 use Rattle.session_crews.specs.FeedTurns.{FeedPart, FeedTurn, closing as feed_closing, comes, fails, gives, looking, part_calls, refused, starts, starves, turn_calls, waits}
 use Rattle.session_crews.specs.declared.feed_end.FeedEnd.{FeedEnd}
 use Rattle.session_delivery.specs.Delivering.{DeliverStep, asks, asks_in_vain, begins, closing_deliverer, finds_none, refuses, step_calls, takes, treats}
-use Rattle.session_delivery.specs.Deliveries.{DelivererPart, delivery_calls}
+use Rattle.session_delivery.specs.Deliveries.{delivery_calls}
 use Rattle.session_delivery.specs.declared.deliver_end.DeliverEnd.{DeliverEnd}
 use Rattle.session_end.specs.Deeds.{Deeds, served_calls}
 use Rattle.session_end.specs.Leftovers.{LeftStep, ends, left_calls, refuses as left_refuses, serves}
@@ -83,7 +83,8 @@ module _ (t : EndCall × EndAnswer → Bool)
       (none_each t turn_calls f.turns turn_none) none.0)
       (feeders_none fs none.1)
 
-  -- nor those of the deliverer: it passes none of the calls of these and of the seat behind the join
+  -- nor those of the deliverer: it passes none of the calls of these and of the seat behind the
+  -- join
   pub served_none : (d : Deeds)
       → list_any t (closing_deliverer d.delivery.ended) ≡ false
       → NoneCloses d.delivery.feeders

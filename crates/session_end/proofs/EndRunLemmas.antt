@@ -1,7 +1,6 @@
 -- A run is what its workers did, and what its two seats saw at last.
-use Rattle.std.proofs.Common.{◌≡◌, ◌<◌, ℕ, Bool, true, false, Option, None, List, [], ◌∷◌, ◌++◌, refl, sym, ap, ◌∙◌, subst}
-use Rattle.std.specs.List.{All, flat_map}
-use Rattle.chan_io.specs.Faults.{Rises}
+use Rattle.std.proofs.Common.{◌≡◌, ◌<◌, ℕ, Bool, true, false, Option, List, [], ◌∷◌, ◌++◌, refl, sym, ap, ◌∙◌, subst}
+use Rattle.std.specs.List.{flat_map}
 use Rattle.chan_io.specs.LinksIn.{Arrivals}
 use Rattle.chan_io.specs.LinksOut.{Departures}
 use Rattle.chan_io.specs.declared.dial.Dial.{Dial}
@@ -24,7 +23,6 @@ use Rattle.session_workers.specs.Writing.{end_calls}
 use Rattle.session_feeds.specs.Sessions.{Account}
 use Rattle.session_feeds.specs.declared.session.SessionFault.{SessionFault}
 use Rattle.session_crews.specs.Crews.{has_stopped}
-use Rattle.session_crews.specs.FeedTurns.{WasStarted}
 use Rattle.session_crews.specs.declared.feed_end.Refusals.{Refusals}
 use Rattle.session_delivery.specs.Deliveries.{account_after}
 use Rattle.session_delivery.specs.Delivering.{delivered_by}
@@ -40,7 +38,7 @@ use Rattle.session_end.specs.Closings.{IsClosing}
 use Rattle.session_end.specs.Crews.{CrewRan, crew_of}
 use Rattle.session_end.specs.Deeds.{Deeds, early_closes, end_parts, outcome_by, read_end, served_calls, shelf_parts}
 use Rattle.session_end.specs.EndRuns.{IsEndRun}
-use Rattle.session_end.specs.Leftovers.{IsLeft, account_left, end_with, left_by}
+use Rattle.session_end.specs.Leftovers.{IsLeft, end_with, left_by}
 use Rattle.session_end.specs.Outcomes.{outcome_of}
 use Rattle.session_end.specs.Parts.{IsMadeOf}
 use Rattle.session_end.specs.Plans.{IsPlanOf}
@@ -181,46 +179,46 @@ module _ {D N U S C W : Type 0} (dials_of : D → Option (List Dial)) (dial_faul
       let agrees : Bool = agreed joined.service.session in
       let refusal : Option SessionFault = refused joined.service.session in
       let read =
-          ReaderPart-of dials_of dial_faults arrivals_of faults (setting_of setup base) token
-          crew.reader joined.reader spawned new_spawned ran.read is.setting
-          (ap first_state is.token) in
+      ReaderPart-of dials_of dial_faults arrivals_of faults (setting_of setup base) token
+      crew.reader joined.reader spawned new_spawned ran.read is.setting
+      (ap first_state is.token) in
       let wrote =
-          WriterPart-of departures send_faults setup.side crew.writer joined.writer
-          joined.written spawned new_spawned ran.wrote (ap (λ s. s.side) is.setting) refl in
+      WriterPart-of departures send_faults setup.side crew.writer joined.writer
+      joined.written spawned new_spawned ran.wrote (ap (λ s. s.side) is.setting) refl in
       let resent =
-          ResenderPart-of crew.resender joined.resender joined.gave_up spawned new_spawned
-          ran.resent in
+      ResenderPart-of crew.resender joined.resender joined.gave_up spawned new_spawned
+      ran.resent in
       let served = SessionPart-of in
       let legal : IsLegalFor setup.window (calls_of h) =
-          subst (λ (w : ℕ). IsLegalFor w (calls_of h))
-          (closed_setting dials_of dial_faults arrivals_of faults departures send_faults stands
-          out begun refused setup base plan link session seats shelf_seats joined spawned
-          new_spawned is split shelf_split ran h k closed)
-          closed.legal in
+      subst (λ (w : ℕ). IsLegalFor w (calls_of h))
+      (closed_setting dials_of dial_faults arrivals_of faults departures send_faults stands
+      out begun refused setup base plan link session seats shelf_seats joined spawned
+      new_spawned is split shelf_split ran h k closed)
+      closed.legal in
       let last =
-          closed_last dials_of dial_faults arrivals_of faults departures send_faults stands out
-          begun refused setup base plan link session seats shelf_seats joined spawned new_spawned
-          is split shelf_split ran h k closed in
+      closed_last dials_of dial_faults arrivals_of faults departures send_faults stands out
+      begun refused setup base plan link session seats shelf_seats joined spawned new_spawned
+      is split shelf_split ran h k closed in
       let made : IsMadeOf h (end_parts token deeds_of) =
-          subst
-          (λ ended. IsMadeOf h
-          (parts_with (resent_by ran.resent.turns).over (read_end token deeds_of) ended))
-          ended_is
-          (subst
-          (λ read. IsMadeOf h
-          (parts_with (resent_by ran.resent.turns).over read joined.ended))
-          over_is
-          (subst
-          (λ resent. IsMadeOf h
-          (parts_with resent joined.reader.state.over joined.ended))
-          resent_is
-          (closed_made dials_of dial_faults arrivals_of faults departures send_faults stands out
-          begun refused setup base plan link session seats shelf_seats joined spawned new_spawned
-          is split shelf_split ran h k closed))) in
+      subst
+      (λ ended. IsMadeOf h
+      (parts_with (resent_by ran.resent.turns).over (read_end token deeds_of) ended))
+      ended_is
+      (subst
+      (λ read. IsMadeOf h
+      (parts_with (resent_by ran.resent.turns).over read joined.ended))
+      over_is
+      (subst
+      (λ resent. IsMadeOf h
+      (parts_with resent joined.reader.state.over joined.ended))
+      resent_is
+      (closed_made dials_of dial_faults arrivals_of faults departures send_faults stands out
+      begun refused setup base plan link session seats shelf_seats joined spawned new_spawned
+      is split shelf_split ran h k closed))) in
       let shelf_made : IsMadeOf k (shelf_parts deeds_of) =
-          closed_shelf_made dials_of dial_faults arrivals_of faults departures send_faults stands
-          out begun refused setup base plan link session seats shelf_seats joined spawned
-          new_spawned is split shelf_split ran h k closed in
+      closed_shelf_made dials_of dial_faults arrivals_of faults departures send_faults stands
+      out begun refused setup base plan link session seats shelf_seats joined spawned
+      new_spawned is split shelf_split ran h k closed in
       let outcome = outcome_is agrees in
       record {
         deeds = deeds_of;
@@ -248,14 +246,14 @@ module _ {D N U S C W : Type 0} (dials_of : D → Option (List Dial)) (dial_faul
         given =
             given_of (setting_of setup base) setup.side token deeds_of setup.window h k spawned
             new_spawned refusal agrees read.may wrote.may wrote.ended read.started wrote.started
-            resent.started served.started served.fits served.idle served.ran served.cause
+            resent.started served.started served.fits served.cause
             served.left served.refusal legal last made shelf_made;
         outcome = outcome;
         cause =
             subst (HasCause token deeds_of h k spawned new_spawned refusal agrees) (sym outcome)
             (HasCause-of (setting_of setup base) setup.side token deeds_of setup.window h k
             spawned new_spawned refusal agrees read.may wrote.may wrote.ended read.started
-            wrote.started resent.started served.started served.fits served.idle served.ran
+            wrote.started resent.started served.started served.fits
             served.cause served.left served.refusal legal last made shelf_made);
       }
 

@@ -145,14 +145,14 @@ module _ (token : List ℕ) (d : Deeds) where
   some_from n (inl never) = absurd (cc)
   some_from n (inr some) =
       let early : List (EndCall × EndAnswer) =
-          early_closes d.written (resent_by d.ticks).over (read_end token d) d.delivery.ended in
+      early_closes d.written (resent_by d.ticks).over (read_end token d) d.delivery.ended in
       let of_reader : List (EndCall × EndAnswer) =
-          flat_map reader_calls d.steps ++ reader_closing (read_end token d) in
+      flat_map reader_calls d.steps ++ reader_closing (read_end token d) in
       let of_writer : List (EndCall × EndAnswer) =
-          flat_map end_calls d.turns ++ closing_of d.written in
+      flat_map end_calls d.turns ++ closing_of d.written in
       let ticks : List (EndCall × EndAnswer) = flat_map resend_calls d.ticks in
       let others : List (ℕ × List (EndCall × EndAnswer)) =
-          served_calls d ++ (d.main, closing ∷ []) ∷ [] in
+      served_calls d ++ (d.main, closing ∷ []) ∷ [] in
       later_in (gives_entry n) d.main early
       ((d.reader, of_reader) ∷ (d.writer, of_writer) ∷ (d.resender, ticks) ∷ others)
       (later_in (gives_entry n) d.reader of_reader

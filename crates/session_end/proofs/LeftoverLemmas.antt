@@ -52,10 +52,10 @@ module _ {F : Type 0} (told : F → Told) where
       → after (record a { back = a.back ++ map came_of (marks_of told fs) })
   AllCameBack-new before after fs fresh came a is =
       let given : a.given ++ flat_map (λ (t : Told). t.pieces) (map told fs) ≡ a.given =
-          ap (λ l. a.given ++ l) (new_pieces fs fresh) ∙ append-nil a.given in
+      ap (λ l. a.given ++ l) (new_pieces fs fresh) ∙ append-nil a.given in
       let back : a.back ++ map (λ (t : Told). (t.mark, t.came)) (map told fs)
-          ≡ a.back ++ map came_of (marks_of told fs) =
-          ap (λ l. a.back ++ l) (new_marks fs fresh) in
+      ≡ a.back ++ map came_of (marks_of told fs) =
+      ap (λ l. a.back ++ l) (new_marks fs fresh) in
       subst after (λ i. record a { given = given i; back = back i }) (came a is)
 
 -- ---- one step
@@ -75,34 +75,34 @@ module _ {S C : Type 0} (stands : S → Account C → Type 0) (out : S → List 
       → Serves stands out begun refused old at (serves parcel a) new now
   Serves-served told old mid at parcel verdict a new now on none same shelf was_begun
       was_refused gives is = record {
-    may = (on, is.is_answered);
-    state =
-        λ i. record {
-          stopped = is.stopped i;
-          refused = (is.unrefused ∙ none) i;
-          over = (is.over ∙ on) i;
-        };
-    end =
-        subst (λ e. AddsCalls e (left_calls (serves parcel a)) new.end) same is.end;
-    shelf =
-        subst (λ s. AddsCalls old.shelf (taking (Some parcel) ∷ []) s) (sym is.shelf) shelf;
-    account =
-        λ (c : Account C) (so : stands old.session c).
-        let given : verdict.puts ≡ a.puts ++ [] = sym is.puts ∙ sym (append-nil a.puts) in
-        let marks : a.marks ≡ a.marks ++ [] = sym (append-nil a.marks) in
-        subst (stands new.session)
-        (λ i. record c {
-          taken = c.taken ++ parcel ∷ [];
-          given = c.given ++ given i;
-          back = c.back ++ map came_of (marks i);
-        })
-        (is.account
-        (record c { taken = c.taken ++ parcel ∷ []; given = c.given ++ verdict.puts })
-        (gives c so));
-    none_out = is.none_out;
-    was_begun = is.was_begun ∙ was_begun;
-    was_refused = is.was_refused ∙ was_refused ∙ sym (is.unrefused ∙ none);
-  }
+        may = (on, is.is_answered);
+        state =
+            λ i. record {
+              stopped = is.stopped i;
+              refused = (is.unrefused ∙ none) i;
+              over = (is.over ∙ on) i;
+            };
+        end =
+            subst (λ e. AddsCalls e (left_calls (serves parcel a)) new.end) same is.end;
+        shelf =
+            subst (λ s. AddsCalls old.shelf (taking (Some parcel) ∷ []) s) (sym is.shelf) shelf;
+        account =
+            λ (c : Account C) (so : stands old.session c).
+            let given : verdict.puts ≡ a.puts ++ [] = sym is.puts ∙ sym (append-nil a.puts) in
+            let marks : a.marks ≡ a.marks ++ [] = sym (append-nil a.marks) in
+            subst (stands new.session)
+            (λ i. record c {
+              taken = c.taken ++ parcel ∷ [];
+              given = c.given ++ given i;
+              back = c.back ++ map came_of (marks i);
+            })
+            (is.account
+            (record c { taken = c.taken ++ parcel ∷ []; given = c.given ++ verdict.puts })
+            (gives c so));
+        none_out = is.none_out;
+        was_begun = is.was_begun ∙ was_begun;
+        was_refused = is.was_refused ∙ was_refused ∙ sym (is.unrefused ∙ none);
+      }
 
   pub Serves-refused : (old : Service S) (at : Progress) (parcel : Parcel)
       (fault : SessionFault) (new : Service S) (now : Progress)
@@ -117,24 +117,24 @@ module _ {S C : Type 0} (stands : S → Account C → Type 0) (out : S → List 
       → Serves stands out begun refused old at (refuses parcel fault) new now
   Serves-refused old at parcel fault new now on state same shelf gives none was_begun
       was_refused = record {
-    may = (on, tt);
-    state = state;
-    end = subst (λ e. AddsCalls old.end [] e) (sym same) (AddsCalls-none old.end);
-    shelf = shelf;
-    account =
-        λ (c : Account C) (so : stands old.session c).
-        let back : c.back ≡ c.back ++ [] = sym (append-nil c.back) in
-        subst (stands new.session)
-        (λ i. record c {
-          taken = c.taken ++ parcel ∷ [];
-          given = c.given ++ [];
-          back = back i;
-        })
-        (gives c so);
-    none_out = none;
-    was_begun = was_begun;
-    was_refused = was_refused;
-  }
+        may = (on, tt);
+        state = state;
+        end = subst (λ e. AddsCalls old.end [] e) (sym same) (AddsCalls-none old.end);
+        shelf = shelf;
+        account =
+            λ (c : Account C) (so : stands old.session c).
+            let back : c.back ≡ c.back ++ [] = sym (append-nil c.back) in
+            subst (stands new.session)
+            (λ i. record c {
+              taken = c.taken ++ parcel ∷ [];
+              given = c.given ++ [];
+              back = back i;
+            })
+            (gives c so);
+        none_out = none;
+        was_begun = was_begun;
+        was_refused = was_refused;
+      }
 
   -- ---- all steps
 
@@ -167,22 +167,22 @@ module _ {S C : Type 0} (stands : S → Account C → Type 0) (out : S → List 
   account_left-more steps step a =
       let more : List LeftStep = step ∷ [] in
       let taken : (a.taken ++ flat_map left_parcels steps) ++ flat_map left_parcels more
-          ≡ a.taken ++ flat_map left_parcels (steps ++ more) =
-          append_assoc a.taken (flat_map left_parcels steps) (flat_map left_parcels more)
-          ∙ ap (λ l. a.taken ++ l) (sym (flat_map-append left_parcels steps more)) in
+      ≡ a.taken ++ flat_map left_parcels (steps ++ more) =
+      append_assoc a.taken (flat_map left_parcels steps) (flat_map left_parcels more)
+      ∙ ap (λ l. a.taken ++ l) (sym (flat_map-append left_parcels steps more)) in
       let given : (a.given ++ flat_map left_items steps) ++ flat_map left_items more
-          ≡ a.given ++ flat_map left_items (steps ++ more) =
-          append_assoc a.given (flat_map left_items steps) (flat_map left_items more)
-          ∙ ap (λ l. a.given ++ l) (sym (flat_map-append left_items steps more)) in
+      ≡ a.given ++ flat_map left_items (steps ++ more) =
+      append_assoc a.given (flat_map left_items steps) (flat_map left_items more)
+      ∙ ap (λ l. a.given ++ l) (sym (flat_map-append left_items steps more)) in
       let back : (a.back ++ map came_of (flat_map left_marks steps))
-          ++ map came_of (flat_map left_marks more)
-          ≡ a.back ++ map came_of (flat_map left_marks (steps ++ more)) =
-          append_assoc a.back (map came_of (flat_map left_marks steps))
-          (map came_of (flat_map left_marks more))
-          ∙ ap (λ l. a.back ++ l)
-          (sym
-          (map-append came_of (flat_map left_marks steps) (flat_map left_marks more))
-          ∙ ap (map came_of) (sym (flat_map-append left_marks steps more))) in
+      ++ map came_of (flat_map left_marks more)
+      ≡ a.back ++ map came_of (flat_map left_marks (steps ++ more)) =
+      append_assoc a.back (map came_of (flat_map left_marks steps))
+      (map came_of (flat_map left_marks more))
+      ∙ ap (λ l. a.back ++ l)
+      (sym
+      (map-append came_of (flat_map left_marks steps) (flat_map left_marks more))
+      ∙ ap (map came_of) (sym (flat_map-append left_marks steps more))) in
       λ i. record { contents = a.contents; taken = taken i; given = given i; back = back i }
 
   pub Serving-more : (old mid new : Service S) (at now : Progress) (steps : List LeftStep)
@@ -192,8 +192,8 @@ module _ {S C : Type 0} (stands : S → Account C → Type 0) (out : S → List 
       → Serving stands out begun refused old (steps ++ step ∷ []) new now
   Serving-more old mid new at now steps step so is =
       let both =
-          goes_on left_after MayServe at_first_left (state_of at) (state_of now) steps step
-          so.may so.state is.may is.state in
+      goes_on left_after MayServe at_first_left (state_of at) (state_of now) steps step
+      so.may so.state is.may is.state in
       record {
         may = both.0;
         state = both.1;

@@ -1,6 +1,6 @@
 -- What the ends of the workers are, where an outcome tells that none was refused.
-use Rattle.std.proofs.Common.{◌≡◌, ◌⊎◌, inl, inr, Bool, true, false, Option, Some, None, List, [], refl, sym, ap, ◌∙◌}
-use Rattle.std.specs.Prelude.{◌&&◌, ◌||◌, not, is_some}
+use Rattle.std.proofs.Common.{◌≡◌, ◌⊎◌, inl, inr, Bool, true, false, Option, Some, None, List, [], refl, ap, ◌∙◌}
+use Rattle.std.specs.Prelude.{◌&&◌, not, is_some}
 use Rattle.channel_core.specs.Numbers.{or_else}
 use Rattle.session_workers.specs.declared.read_state.ReadEnd.{ReadEnd}
 use Rattle.session_workers.specs.declared.worker_end.WorkerEnd.{WorkerEnd}

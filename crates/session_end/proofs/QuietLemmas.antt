@@ -1,5 +1,5 @@
 -- Where no worker was refused, no call wanted memory.
-use Rattle.std.proofs.Common.{◌≡◌, ℕ, Bool, true, false, Option, Some, None, List, [], ◌∷◌, ◌++◌, map, refl, ap, ◌∙◌, subst}
+use Rattle.std.proofs.Common.{◌≡◌, ℕ, Bool, true, false, Option, Some, None, List, [], ◌∷◌, ◌++◌, map, refl, ◌∙◌, subst}
 use Rattle.std.specs.List.{flat_map, fold, list_any}
 use Rattle.chan_values.specs.declared.side.Side.{Side}
 use Rattle.channel_core.specs.declared.call.EndAnswer.{EndAnswer}
@@ -121,7 +121,7 @@ module _ (setting : LinkSetting) (side : Side) (token : List ℕ) (d : Deeds)
       not_true (list_any wanting (flat_map end_calls d.turns))
       (λ yes. let starved = writer_wants side (at_first 0) d.turns turns yes in
       let closed =
-          subst (λ e. IsEndedBy e (fold (progress side) (at_first 0) d.turns)) written ended in
+      subst (λ e. IsEndedBy e (fold (progress side) (at_first 0) d.turns)) written ended in
       let fed = closed.1 in
       absurd (cc))
 

@@ -127,7 +127,9 @@ module _ (old new : Resender) (gave_up : Option ℕ) where
         turns = [];
         may = tt;
         progress = λ i. record { over = over i; gave_up = none i };
-        end = subst (λ (r : Resender). AddsCalls old.end [] r.end) (sym same) (AddsCalls-none old.end);
+        end =
+            subst (λ (r : Resender). AddsCalls old.end [] r.end) (sym same)
+            (AddsCalls-none old.end);
         started = UnlessStarted-not new.over [] x y over refl rose;
       }
 

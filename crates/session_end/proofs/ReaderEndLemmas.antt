@@ -22,7 +22,8 @@ use Rattle.session_end.proofs.HistoryLemmas.{or_left, or_right}
 abbrev pub tells : EndCall × EndAnswer → Bool
 tells c = is_ended c.1 || tells_closed c.1
 
--- how a step ends the reader, if it does: where it was told that the end is closed, or wanted memory
+-- how a step ends the reader, if it does: where it was told that the end is closed, or wanted
+-- memory
 data EndsBy (over : Option ReadEnd) (told : Bool) : Type 0 where
   goes_on : over ≡ None → EndsBy over told
   wanted : over ≡ Some ReadEnd.NoMemory → EndsBy over told

@@ -50,8 +50,8 @@ abbrev pub is_shelf_wanting : ShelfAnswer → Bool
 is_shelf_wanting ShelfAnswer.NoMemory = true
 is_shelf_wanting answer = false
 
--- a dial of these steps had this reply, which did not accept, or did not read; a later one that tells
--- that the session has ended is none such
+-- a dial of these steps had this reply, which did not accept, or did not read; a later one that
+-- tells that the session has ended is none such
 pub record IsRefused (token : List ℕ) (steps : List ReaderStep) (reply : List ℕ) : Type 0 where
   pub earlier : List ReaderStep
   pub opening : List ℕ
@@ -80,8 +80,8 @@ module _ (token : List ℕ) (d : Deeds) (h : List (Entry EndCall EndAnswer))
     (refusal : Option SessionFault) (agreed : Bool) where
   -- the outcome has its cause: Ended and Unagreed that the closing of the other end was heard, that
   -- no call wanted memory, and what the session says of its agreement; a refused reply, a link lost
-  -- by six dials, a number given up, a fault of the session or of a feeder, a start that failed that
-  -- they were. Want of memory alone needs none
+  -- by six dials, a number given up, a fault of the session or of a feeder, a start that failed
+  -- that they were. Want of memory alone needs none
   abbrev pub HasCause : Outcome → Type 0
   HasCause Outcome.Ended = IsQuietEnd h k × (agreed ≡ true)
   HasCause Outcome.Unagreed = IsQuietEnd h k × (agreed ≡ false)

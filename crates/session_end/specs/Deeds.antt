@@ -63,11 +63,10 @@ served_calls d =
 
 -- the calls of the end: those closes, the calls of each worker, and one close at last
 abbrev pub end_parts : List ℕ → Deeds → List (ℕ × List (EndCall × EndAnswer))
-end_parts token d =
-    (
-      d.main,
-      early_closes d.written (resent_by d.ticks).over (read_end token d) d.delivery.ended,
-    )
+end_parts token d = (
+  d.main,
+  early_closes d.written (resent_by d.ticks).over (read_end token d) d.delivery.ended,
+)
     ∷ (d.reader, flat_map reader_calls d.steps ++ reader_closing (read_end token d))
     ∷ (d.writer, flat_map end_calls d.turns ++ closing_of d.written)
     ∷ (d.resender, flat_map resend_calls d.ticks)

@@ -32,8 +32,8 @@ module _ {D N U S C : Type 0} (dials_of : D → Option (List Dial)) (dial_faults
     (arrivals_of : N → Option Arrivals) (faults : N → ℕ) (departures : U → Option Departures)
     (send_faults : U → ℕ) (stands : S → Account C → Type 0) (out : S → List ℕ)
     (refused : S → Option SessionFault) (agreed : S → Bool) where
-  -- the histories of the end and of the shelf are made of what the workers did, in this run with its
-  -- base and its outcome
+  -- the histories of the end and of the shelf are made of what the workers did, in this run with
+  -- its base and its outcome
   pub record IsEndRun (setup : Setup) (base : List ℕ) (link new_link : Link D N U)
       (session new_session : S) (spawned new_spawned : ℕ) (h : List (Entry EndCall EndAnswer))
       (k : List (Entry ShelfCall ShelfAnswer)) (came_to : Outcome)

@@ -30,8 +30,8 @@ use Rattle.session_end.specs.Starts.{UnlessStarted}
 
 module _ {D N : Type 0} (dials_of : D → Option (List Dial)) (dial_faults : D → ℕ)
     (arrivals_of : N → Option Arrivals) (faults : N → ℕ) where
-  -- all that the link reader did, from the token of the first opening on. Where it was not started it
-  -- has not ended, it did nothing, and the spawner's count rose
+  -- all that the link reader did, from the token of the first opening on. Where it was not started
+  -- it has not ended, it did nothing, and the spawner's count rose
   pub record ReaderPart (setting : LinkSetting) (token : List ℕ) (steps : List ReaderStep)
       (dialer new_dialer : D) (input new_input : N) (before after : ℕ)
       : Type 0 where
@@ -45,8 +45,8 @@ module _ {D N : Type 0} (dials_of : D → Option (List Dial)) (dial_faults : D �
     pub started : UnlessStarted (is_some (state_after token steps).over) steps before after
 
 module _ {U : Type 0} (departures : U → Option Departures) (faults : U → ℕ) where
-  -- all that the link writer did, and how it ended. The link is shut once, also where the writer was
-  -- not started
+  -- all that the link writer did, and how it ended. The link is shut once, also where the writer
+  -- was not started
   pub record WriterPart (side : Side) (turns : List WriterTurn) (end : Option WorkerEnd)
       (output new_output : U) (before after : ℕ)
       : Type 0 where

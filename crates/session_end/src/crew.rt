@@ -93,7 +93,8 @@ pub(crate) struct Joined<D, N, U, S, W> {
     pub reader: LinkReader<D, N>,
     /// The session, with the seats of the deliverer.
     pub service: Service<S>,
-    /// The refusals of memory, of feeders and of threads with which it and the workers of feeders ended.
+    /// The refusals of memory, of feeders and of threads with which it and the workers of feeders
+    /// ended.
     pub refusals: Refusals,
     /// How the deliverer ended; none where it was not started, or did nothing.
     pub ended: Option<DeliverEnd>,

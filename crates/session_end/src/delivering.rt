@@ -5,7 +5,6 @@ ghost use Rattle.chan_io.specs.Faults.{Merges};
 ghost use Rattle.turn_lock.specs.Seats.{IsSeatOf};
 ghost use Rattle.session_run.specs.Adds.{AddsCalls};
 ghost use Rattle.session_end.specs.Ran.{DelivererRan};
-
 ghost use Rattle.session_end.specs.Starts.{closing_unless};
 
 use crate::starts::close_unless;

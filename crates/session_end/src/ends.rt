@@ -19,7 +19,8 @@ pub(crate) struct Ends {
     pub started: bool,
     /// How the deliverer ended.
     pub delivered: Option<DeliverEnd>,
-    /// The refusals of memory, of feeders and of threads with which it and the workers of feeders ended.
+    /// The refusals of memory, of feeders and of threads with which it and the workers of feeders
+    /// ended.
     pub refusals: Refusals,
     /// Whether both sides agreed on the session.
     pub agreed: bool,

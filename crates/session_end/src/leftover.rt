@@ -37,8 +37,8 @@ pub(crate) struct Progress {
     pub over: bool,
 }
 
-/// Gives what is left on the shelf to the session, up to a refusal, where the deliverer had found the
-/// end closed. Answers the refusal.
+/// Gives what is left on the shelf to the session, up to a refusal, where the deliverer had found
+/// the end closed. Answers the refusal.
 pub(crate) fn serve_left<R: Wait, C: Clock, G, S: Session>(
     ctx: &RunContext<'_, '_, R, C, G>,
     service: &mut Service<S>,

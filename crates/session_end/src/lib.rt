@@ -1,6 +1,6 @@
 //! One run of one end of the data channel with its session: its workers are started in threads over
-//! one end and one shelf, and joined again. The histories of both come back as receipts, and say who
-//! made which call.
+//! one end and one shelf, and joined again. The histories of both come back as receipts, and say
+//! who made which call.
 #![tactic(auto)]
 
 mod crew;

@@ -44,8 +44,8 @@ pub struct EndRun<D, N, U, S, E, W> {
 }
 
 /// Runs one end with its session over its link until all of its workers have ended: dials with the
-/// token of the setup, hears what comes, gives the session what is released, puts in what it and its
-/// feeders give, and sends what the end emits.
+/// token of the setup, hears what comes, gives the session what is released, puts in what it and
+/// its feeders give, and sends what the end emits.
 ///
 /// Where no base can be drawn, or there is no memory for the plan of the run, nothing is started.
 pub fn run_end<

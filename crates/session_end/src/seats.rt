@@ -1,5 +1,5 @@
-//! The seats of a run on its two locks. Those of the workers are split off one from another, so that
-//! their numbers rise, and joined in the opposite order.
+//! The seats of a run on its two locks. Those of the workers are split off one from another, so
+//! that their numbers rise, and joined in the opposite order.
 
 ghost use Rattle.std.specs.Prelude.{◌≡◌};
 ghost use Rattle.turn_lock.specs.Seats.{IsSeatOf};

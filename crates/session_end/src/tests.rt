@@ -1,5 +1,5 @@
-//! Runs over the fakes of the outside and a session in memory: what each comes to, and two workers that
-//! go on beside each other.
+//! Runs over the fakes of the outside and a session in memory: what each comes to, and two workers
+//! that go on beside each other.
 
 mod cases;
 mod coming;

@@ -85,11 +85,7 @@ fn run_crew<
     U: LinkOut + Send + Drop + 's,
     S: Session + 's,
     W: Spawner + Send + 's,
->(
-    ctx: &RunContext<'s, 'e, R, C, G>,
-    crew: Crew<D, N, U, S>,
-    spawner: W,
-) -> Joined<D, N, U, S, W>
+>(ctx: &RunContext<'s, 'e, R, C, G>, crew: Crew<D, N, U, S>, spawner: W) -> Joined<D, N, U, S, W>
 where
     S::F: 's,
     requires { IsCrewOf S.begun S.out ctx.now.ends.now ctx.now.shelf.now crew }

@@ -10,8 +10,8 @@ pub(crate) struct Case {
     pub(crate) met: Met,
     /// What the session does.
     pub(crate) serving: Serving,
-    /// The starts that fail: of the link writer 0, of the resend worker 1, of the link reader 2, of the
-    /// deliverer 3.
+    /// The starts that fail: of the link writer 0, of the resend worker 1, of the link reader 2, of
+    /// the deliverer 3.
     pub(crate) unstarted: &'static [u64],
     /// The outcome's name.
     pub(crate) outcome: &'static str,

@@ -7,8 +7,8 @@ use channel_core::wire::outgoing;
 use resend_queue::Sent;
 use std::alloc::Global;
 
-/// `channel_closed`, by the layout of docs/PROTOCOL.md: what stands before the body. The digest is that
-/// of Python's hashlib.
+/// `channel_closed`, by the layout of docs/PROTOCOL.md: what stands before the body. The digest is
+/// that of Python's hashlib.
 const CLOSING_HEAD: [u8; 120] = *b"\x00\x00\x00\x74channel_closed                  \
     \x00\x00\x00\x01\x00\x00\x00\x00\x00\x00\x00\x01\x00\x00\x00\x00\x00\x00\x00\x00\
     \x00\x00\x00\x00\x00\x00\x00\x00\x00\x00\x00\x00\x00\x00\x00\x09\x00\x00\x00\x00\x00\x00\x00\x00\

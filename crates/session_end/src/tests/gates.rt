@@ -14,8 +14,8 @@ use std::thread::yield_now;
 /// How often a worker that is held looks whether it may go on.
 const LOOKS: u32 = 10_000;
 
-/// A gate that holds the link reader's second turn until the link writer's third began, and the link
-/// writer's fourth until the link reader's third began.
+/// A gate that holds the link reader's second turn until the link writer's third began, and the
+/// link writer's fourth until the link reader's third began.
 #[derive(Drop)]
 struct Crossing {
     reader: AtomicU64,

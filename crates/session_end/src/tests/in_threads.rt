@@ -3,8 +3,8 @@
 use chan_io::{NoThread, Spawner, Start};
 use std::alloc::Global;
 
-/// A spawner that starts a thread for each worker, but for the starts whose numbers are in the list,
-/// which fail; the first start is 0. A twin's starts don't fail.
+/// A spawner that starts a thread for each worker, but for the starts whose numbers are in the
+/// list, which fail; the first start is 0. A twin's starts don't fail.
 #[derive(Drop)]
 pub(crate) struct InThreads {
     alloc: Global,

@@ -51,8 +51,8 @@ fn name_of(outcome: &Outcome) -> &'static str {
     }
 }
 
-/// Whether a case comes to what it says. The link is shut once exactly where the run was begun, and no
-/// feeder stays out.
+/// Whether a case comes to what it says. The link is shut once exactly where the run was begun, and
+/// no feeder stays out.
 fn holds<R: Threads + Wait + Sync>(rt: &R, alloc: Global, case: &Case) -> Result<bool, NoMemory> {
     let session = session(alloc, case.serving);
     let ran = run(rt, alloc, &case.met, session, case.unstarted, &OpenGate)?;

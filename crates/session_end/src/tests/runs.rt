@@ -6,9 +6,7 @@ use super::coming::{Coming, got_of};
 use super::in_threads::InThreads;
 use super::taking_session::TakingSession;
 use crate::{EndRun, Setup, run_end};
-use chan_io::{
-    Dial, FaultyDialer, FaultyEntropy, FaultyLinkIn, FaultyLinkOut, Link, StillClock,
-};
+use chan_io::{Dial, FaultyDialer, FaultyEntropy, FaultyLinkIn, FaultyLinkOut, Link, StillClock};
 use chan_values::{Bytes, NoMemory, Side, Text};
 use session_register::{SessionName, Token, TokenValue};
 use session_run::{Gate, Parcel};
@@ -52,7 +50,8 @@ pub(crate) struct Met {
     pub(crate) undrawn: bool,
 }
 
-/// What the run is set to: the session s-1, the end of the plugin, the token of count 1 and random 7.
+/// What the run is set to: the session s-1, the end of the plugin, the token of count 1 and random
+/// 7.
 fn setup(alloc: Global) -> Result<Setup, NoMemory>
     ensures { IfOk result (λ setup. setup.window ≡ 10) }
 {
@@ -120,7 +119,17 @@ pub(crate) fn run<R: Threads + Wait + Sync, G: Gate>(
     let link = link(alloc, met)?;
     let entropy = entropy(alloc, met)?;
     let spawner = InThreads::new(alloc, unstarted);
-    Ok(run_end(rt, alloc, setup, link, session, &StillClock, entropy, spawner, gate))
+    Ok(run_end(
+        rt,
+        alloc,
+        setup,
+        link,
+        session,
+        &StillClock,
+        entropy,
+        spawner,
+        gate,
+    ))
 }
 
 /// What a session took, in letters: of an item its bytes, and a point behind the last.

@@ -1,4 +1,4 @@
-use Rattle.std.proofs.Common.{◌≡◌, ◌∙◌, ◌++◌, ◌∷◌, [], map, refl, sym, ap, subst, append_assoc, arith}
+use Rattle.std.proofs.Common.{◌∙◌, ◌++◌, ◌∷◌, [], map, refl, sym, ap, subst, append_assoc, arith}
 use Rattle.std.specs.Vec.{vec_len}
 use Rattle.std.proofs.lemmas.Bool.{eqb-true}
 use Rattle.std.proofs.lemmas.List.{append-nil, nil_from_length}
@@ -17,8 +17,8 @@ back-requires g c =
     let m = c.loop-session.invariant in
     let told = g.S.F.Feeder.told in
     let front = first_out c.loop-session.feeders.items c.remove.new.self.items c.remove.result
-        (omega (arith, c.remove.ensures.len, c.loop-session.feeders.ok.0))
-        c.remove.ensures.value c.remove.ensures.by_index.2 in
+    (omega (arith, c.remove.ensures.len, c.loop-session.feeders.ok.0))
+    c.remove.ensures.value c.remove.ensures.by_index.2 in
     ComesBack-out _ (told c.remove.result) _ c.requires.0
     (subst (λ l. ComesBack (times (g.S.Session.out c.loop-session.session)) l c.requires.0)
     (ap (map told) front) (m.3 c.requires.0 c.requires.1))
@@ -29,8 +29,8 @@ loop-session-preserved g c =
     let told = g.S.F.Feeder.told in
     let f = told c.remove.result in
     let front = first_out c.loop-session.feeders.items c.remove.new.self.items c.remove.result
-        (omega (arith, c.remove.ensures.len, c.loop-session.feeders.ok.0))
-        c.remove.ensures.value c.remove.ensures.by_index.2 in
+    (omega (arith, c.remove.ensures.len, c.loop-session.feeders.ok.0))
+    c.remove.ensures.value c.remove.ensures.by_index.2 in
     let now = ap (map told) front in (
       m.0 ++ f ∷ [],
       m.1 ∙ ap (λ l. m.0 ++ l) now ∙ sym (append_assoc m.0 (f ∷ []) _),
@@ -48,9 +48,9 @@ loop-session-preserved g c =
 pub returns-clause-out : goal.returns-clause-out
 returns-clause-out g c after all =
     let zero = eqb-true (vec_len c.loop-session.feeders) 0
-        (sym c.is_empty.ensures ∙ c.loop-session-test.false) in
+    (sym c.is_empty.ensures ∙ c.loop-session-test.false) in
     let none = nil_from_length c.loop-session.feeders.items
-        (omega (arith, zero, c.loop-session.feeders.ok.0)) in
+    (omega (arith, zero, c.loop-session.feeders.ok.0)) in
     subst (λ l. ComesBack (times (g.S.Session.out c.loop-session.session)) l after)
     (ap (map g.S.F.Feeder.told) none) (c.loop-session.invariant.3 after all)
 
@@ -59,9 +59,9 @@ returns-clause-stands g c =
     let m = c.loop-session.invariant in
     let told = g.S.F.Feeder.told in
     let zero = eqb-true (vec_len c.loop-session.feeders) 0
-        (sym c.is_empty.ensures ∙ c.loop-session-test.false) in
+    (sym c.is_empty.ensures ∙ c.loop-session-test.false) in
     let none = nil_from_length c.loop-session.feeders.items
-        (omega (arith, zero, c.loop-session.feeders.ok.0)) in
+    (omega (arith, zero, c.loop-session.feeders.ok.0)) in
     subst
     (λ l. AllCameBack (g.S.Session.stands c.args.session.now) l
     (g.S.Session.stands c.loop-session.session))

@@ -4,22 +4,17 @@ use Rattle.session_crews.specs.Seats.{ShelfSeat}
 use Rattle.session_end.specs.declared.seats.EndSeats.{EndSeats}
 use Rattle.session_end.specs.declared.seats.ShelfSeats.{ShelfSeats}
 use Rattle.session_end.specs.Closings.{AreEndSeats, AreShelfSeats, IsClosing}
-use Rattle.session_end.specs.Crews.{CrewRan}
 use Rattle.session_end.specs.Outcomes.{outcome_of}
-use Rattle.session_end.specs.Settling.{seats_after, shelf_seats_after}
+use Rattle.session_end.specs.Settling.{shelf_seats_after}
 use Rattle.session_end.proofs.EndRunLemmas.{IsEndRun-of, IsEndRun-same}
-use Rattle.session_end.proofs.RunSeatLemmas.{AreEndSeats-of, AreShelfSeats-of}
+use Rattle.session_end.proofs.RunSeatLemmas.{AreEndSeats-of, AreShelfSeats-of, CrewRan-same}
 use Rattle.session_end.proofs.run.run_plan.Goals as goal
 
 pub finish-requires-clause-ends : goal.finish-requires-clause-ends
 finish-requires-clause-ends g c =
-    let ran = subst
-        (λ crew. CrewRan g.D.Dialer.dials g.D.Dialer.faults g.N.LinkIn.arrivals
-        g.N.LinkIn.faults g.U.LinkOut.departures g.U.LinkOut.faults g.S.Session.stands
-        g.S.Session.out g.S.Session.begun g.S.Session.refused crew c.in_threads-joined.result
-        (g.W.Spawner.faults c.args.spawner)
-        (g.W.Spawner.faults c.in_threads-joined.result.spawner))
-        c.new-crew.ensures.crew c.in_threads-joined.ensures in
+    let ran =
+    CrewRan-same _ _ _ _ _ _ _ _ _ _ _ _ _ _ _ c.new-crew.ensures.crew
+    c.in_threads-joined.ensures in
     subst (λ (s : EndSeats). AreEndSeats c.args.plan.shared.ends s)
     (sym c.settle.ensures.seats)
     (AreEndSeats-of _ _ _ _ _ _ _ _ _ _ c.requires.plan.0 c.requires.plan.1 c.args.plan
@@ -29,13 +24,9 @@ finish-requires-clause-ends g c =
 
 pub finish-requires-clause-shelf : goal.finish-requires-clause-shelf
 finish-requires-clause-shelf g c =
-    let ran = subst
-        (λ crew. CrewRan g.D.Dialer.dials g.D.Dialer.faults g.N.LinkIn.arrivals
-        g.N.LinkIn.faults g.U.LinkOut.departures g.U.LinkOut.faults g.S.Session.stands
-        g.S.Session.out g.S.Session.begun g.S.Session.refused crew c.in_threads-joined.result
-        (g.W.Spawner.faults c.args.spawner)
-        (g.W.Spawner.faults c.in_threads-joined.result.spawner))
-        c.new-crew.ensures.crew c.in_threads-joined.ensures in
+    let ran =
+    CrewRan-same _ _ _ _ _ _ _ _ _ _ _ _ _ _ _ c.new-crew.ensures.crew
+    c.in_threads-joined.ensures in
     subst (λ (s : ShelfSeats). AreShelfSeats c.args.plan.shared.shelf s)
     (sym c.settle.ensures.shelf_seats)
     (subst
@@ -53,20 +44,17 @@ returns g c setup base is =
     let h = history_of c.finish.result.ends in
     let k = history_of c.finish.result.shelf in
     let settle = c.settle.ensures in
-    let ran = subst
-        (λ crew. CrewRan g.D.Dialer.dials g.D.Dialer.faults g.N.LinkIn.arrivals
-        g.N.LinkIn.faults g.U.LinkOut.departures g.U.LinkOut.faults g.S.Session.stands
-        g.S.Session.out g.S.Session.begun g.S.Session.refused crew joined
-        (g.W.Spawner.faults c.args.spawner) (g.W.Spawner.faults joined.spawner))
-        c.new-crew.ensures.crew c.in_threads-joined.ensures in
+    let ran =
+    CrewRan-same _ _ _ _ _ _ _ _ _ _ _ _ _ _ _ c.new-crew.ensures.crew
+    c.in_threads-joined.ensures in
     let closing =
-        subst (λ (s : EndSeats). IsClosing s (shelf_seats_after joined
-        c.split-shelf_seats.result.main) h k)
-        settle.seats
-        (subst (λ (s : ShelfSeats). IsClosing c.settle.result.seats s h k)
-        (settle.shelf_seats
-        ∙ ap (λ (m : ShelfSeat). shelf_seats_after joined m) c.new-crew.ensures.main)
-        c.finish.ensures.closing) in
+    subst (λ (s : EndSeats). IsClosing s (shelf_seats_after joined
+    c.split-shelf_seats.result.main) h k)
+    settle.seats
+    (subst (λ (s : ShelfSeats). IsClosing c.settle.result.seats s h k)
+    (settle.shelf_seats
+    ∙ ap (λ (m : ShelfSeat). shelf_seats_after joined m) c.new-crew.ensures.main)
+    c.finish.ensures.closing) in
     IsEndRun-same _ _ _ _ _ _ _ _ _ _ _ _ _ _ _ _ _ _ _ _ _ _ _ _ _
     (c.finish.ensures.link ∙ settle.link)
     (c.finish.ensures.session ∙ settle.session)

@@ -21,7 +21,8 @@ loop-preserved g c =
           c.args.self.now c.loop.self c.step.new.self c.loop.progress c.step.new.progress m.0
           s.0 m.1 s.1,
       ap (λ p. p.refused) s.1.state
-          ∙ on_unrefused (state_of c.loop.progress) s.0 (sym (ap (λ p. p.over) s.1.state) ∙ c.if-progress.false),
+          ∙ on_unrefused (state_of c.loop.progress) s.0
+          (sym (ap (λ p. p.over) s.1.state) ∙ c.if-progress.false),
       c.if-progress.false,
     )
 

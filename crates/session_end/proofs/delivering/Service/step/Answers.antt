@@ -1,4 +1,4 @@
-use Rattle.std.proofs.Common.{◌∙◌, ◌∷◌, ◌++◌, [], Some, ap, refl, subst}
+use Rattle.std.proofs.Common.{◌∙◌, ◌∷◌, ◌++◌, [], ap, refl, subst}
 use Rattle.session_run.specs.Adds.{AddsCalls}
 use Rattle.session_delivery.specs.Delivering.{taking}
 use Rattle.session_end.specs.Leftovers.{refuses, serves}
