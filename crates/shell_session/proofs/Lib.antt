@@ -1,0 +1,16 @@
+pub mod AgentLemmas
+pub mod AskingLemmas
+pub mod BackLemmas
+pub mod ExitLemmas
+pub mod InputLemmas
+pub mod OpeningLemmas
+pub mod OutputsBack
+pub mod ParcelLemmas
+pub mod PluginBack
+pub mod PluginLemmas
+pub mod PluginParcels
+pub mod PluginTakes
+pub mod ReadingLemmas
+pub mod RunLemmas
+pub mod TakeLemmas
+pub mod WaitLemmas

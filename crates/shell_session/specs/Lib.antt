@@ -1,0 +1,11 @@
+pub mod AgentSteps
+pub mod Agents
+pub mod Children
+pub mod Feeders
+pub mod Items
+pub mod Parcels
+pub mod PluginSteps
+pub mod Plugins
+pub mod Readings
+pub mod Streams
+pub mod Verdicts
