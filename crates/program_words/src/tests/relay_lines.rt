@@ -46,7 +46,10 @@ fn lines_say_what_they_are_written_for(rt: HostRuntime) -> Result<(), Fail> {
                 );
                 assert!(rt; said.store.as_str() == store, "{line}");
                 let names = said.sessions.as_slice();
-                assert!(rt; names.len() == 1 && names[0].as_bytes() == b"s-1".as_slice(), "{line}");
+                assert!(rt;
+                    names.len() == 1 && names[0].as_bytes() == b"s-1".as_slice(),
+                    "{line}"
+                );
             }
             Err(_) => assert!(rt; false, "{line}"),
         }

@@ -46,7 +46,10 @@ fn each_status_of_plugin_has_its_line(rt: HostRuntime) -> Result<(), Fail> {
     ];
     for (status, number, line) in cases {
         let told = format!(in rt.alloc(); "{status}")?;
-        assert!(rt; status.number() == number && told.as_str() == line, "{told}");
+        assert!(rt;
+            status.number() == number && told.as_str() == line,
+            "{told}"
+        );
     }
     Ok(())
 }
@@ -84,7 +87,10 @@ fn each_status_of_agent_has_its_line(rt: HostRuntime) -> Result<(), Fail> {
     ];
     for (status, number, line) in cases {
         let told = format!(in rt.alloc(); "{status}")?;
-        assert!(rt; status.number() == number && told.as_str() == line, "{told}");
+        assert!(rt;
+            status.number() == number && told.as_str() == line,
+            "{told}"
+        );
     }
     Ok(())
 }
@@ -107,7 +113,10 @@ fn each_status_of_relay_has_its_line(rt: HostRuntime) -> Result<(), Fail> {
     ];
     for (status, number, line) in cases {
         let told = format!(in rt.alloc(); "{status}")?;
-        assert!(rt; status.number() == number && told.as_str() == line, "{told}");
+        assert!(rt;
+            status.number() == number && told.as_str() == line,
+            "{told}"
+        );
     }
     Ok(())
 }

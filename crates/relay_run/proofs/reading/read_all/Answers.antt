@@ -19,9 +19,10 @@ turn-heard-requires-clause-desk g c =
 pub loop-preserved : goal.loop-preserved
 loop-preserved g c =
     let m = c.loop.invariant in
-    let t = c.turn-heard.ensures in
-    (m.0 ++ t.0 ∷ [],
-    ReadSome-more _ _ _ _ _ _ _ _ m.0 t.0 _ m.1 t.1.reads t.1.desk c.if-inlet.false)
+    let t = c.turn-heard.ensures in (
+      m.0 ++ t.0 ∷ [],
+      ReadSome-more _ _ _ _ _ _ _ _ m.0 t.0 _ m.1 t.1.reads t.1.desk c.if-inlet.false,
+    )
 
 pub returns-then-inlet : goal.returns-then-inlet
 returns-then-inlet g c =
