@@ -24,9 +24,9 @@ fn lines_say_what_they_are_written_for(rt: HostRuntime) -> Result<(), Fail> {
             0,
         ),
         (
-            "--store=/tmp/x,y --sessions=s-1 --port=65535 --drop-after=18446744073709551615",
+            "--store=kept/x,y --sessions=s-1 --port=65535 --drop-after=18446744073709551615",
             65535,
-            "/tmp/x,y",
+            "kept/x,y",
             18_446_744_073_709_551_615,
         ),
         (
